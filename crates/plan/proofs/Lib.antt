@@ -1,0 +1,5 @@
+pub mod Parts
+pub mod Firsts
+pub mod Keys
+pub mod Laws
+pub mod ReadBack

@@ -1,0 +1,12 @@
+use native.Mathlib.Omega.{arith}
+use Rattle.plan.proofs.Parts.{count-legs}
+use Rattle.plan.proofs.words.leg_start.Needs as need
+
+pub mul-result : need.mul-result
+mul-result c = omega (arith, count-legs (c .args .words .now))
+
+pub add-result : need.add-result
+add-result c = omega (arith, count-legs (c .args .words .now))
+
+pub returns : need.returns
+returns c = let n = count-legs (c .args .words .now) in record { value = omega arith; room = omega arith }
