@@ -1,0 +1,78 @@
+#!/usr/bin/env python3
+"""Writes the example files of this folder. docs/FORMAT.md has their format."""
+import pathlib
+import random
+
+HERE = pathlib.Path(__file__).parent
+
+
+def numbers(*values):
+    return b"".join(value.to_bytes(4, "little") for value in values)
+
+
+def plan(changes, legs, walks):
+    flat = [number for row in legs + walks for number in row]
+    return numbers(len(changes), len(legs), len(walks), *changes, *flat)
+
+
+def request(kind, *values):
+    return bytes([kind]) + numbers(*values)
+
+
+# Four piers: one can stay aboard at pier 1, where a change takes longer than the boat waits.
+CHANGES = [2, 3, 2, 0]
+LEGS = [
+    (0, 0, 0, 1, 10, 20),
+    (0, 1, 1, 2, 22, 35),
+    (1, 0, 1, 2, 24, 30),
+    (2, 0, 0, 2, 12, 45),
+    (3, 0, 2, 3, 31, 40),
+]
+WALKS = [(2, 3, 15)]
+
+FOUR = plan(CHANGES, LEGS, WALKS)
+(HERE / "four-piers.plan").write_bytes(FOUR)
+
+# A day on it: questions, then a delay, another, a cancelled leg, an extra one, with the questions again after each;
+# and whether the itinerary of the mark 30/2 still goes.
+ASK = request(0, 0, 9, 2, 3) + request(0, 0, 9, 3, 3)
+STILL = request(4, 0, 9, 2, 0, 0, 1, 0)
+DAY = [
+    ASK,
+    request(1, 3, 0, 2), ASK, STILL,
+    request(1, 0, 0, 2), ASK, STILL,
+    request(2, 0, 1), ASK,
+    request(3, 9, 0, 1, 3, 25, 33), ASK,
+]
+(HERE / "four-piers.requests").write_bytes(FOUR + b"".join(DAY))
+
+# The same plan with the name of the first leg given to the second too.
+TWICE = [LEGS[0], (0, 0, 1, 2, 22, 35)] + LEGS[2:]
+(HERE / "one-name-twice.plan").write_bytes(plan(CHANGES, TWICE, WALKS))
+
+
+def three_lakes():
+    """41 piers on three lakes, 15, 14 and 12 of them. Boats go round each lake both ways, express boats skip piers,
+    and walks join the lakes."""
+    chance = random.Random(41)
+    lakes = [range(0, 15), range(15, 29), range(29, 41)]
+    changes = [chance.choice([2, 3, 3, 4, 5]) for _ in range(41)]
+    legs, run = [], 0
+    for lake in lakes:
+        piers = list(lake)
+        for start in range(360, 1200, 75):
+            for way in (piers, piers[::-1], piers[::4]):
+                time = start + chance.randrange(30)
+                stops = [way[(k + run) % len(way)] for k in range(min(len(way), 5))]
+                for number, (here, there) in enumerate(zip(stops, stops[1:])):
+                    comes = time + chance.randrange(8, 20)
+                    legs.append((run, number, here, there, time, comes))
+                    time = comes + chance.randrange(0, 4)
+                run += 1
+    walks = []
+    for here, there, takes in [(3, 15, 12), (9, 20, 25), (22, 30, 9), (27, 36, 14), (14, 40, 31)]:
+        walks += [(here, there, takes), (there, here, takes + 2)]
+    return plan(changes, legs, walks)
+
+
+(HERE / "three-lakes.plan").write_bytes(three_lakes())
