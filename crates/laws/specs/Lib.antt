@@ -1,0 +1,2 @@
+pub mod JourneyLaws
+pub mod JourneyExamples
