@@ -1,0 +1,2 @@
+// The rounds: the answer to a question, with one boat, with one more, until so many.
+pub mod layout;
