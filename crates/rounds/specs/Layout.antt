@@ -45,9 +45,9 @@ pub record Laid (p : Plan) (joins : List Bool) (first link : List ℕ) : Type 0 
   pub legs : (i : ℕ) → i < length (p .legs) → LegWithin (piers p) (leg p i)
   pub walks : (j : ℕ) → j < length (p .walks) → WalkWithin (piers p) (walk p j)
   pub changes : (s : ℕ) → s < piers p → change-at p s < time-bound
-  pub runs : InRuns (p .legs)
-  pub joins : (i : ℕ) → i < length (p .legs) → JoinAt (p .legs) joins i
-  pub links : Links (p .walks) (piers p) first link (length (p .walks))
+  pub in-runs : InRuns (p .legs)
+  pub joined : (i : ℕ) → i < length (p .legs) → JoinAt (p .legs) joins i
+  pub chained : Links (p .walks) (piers p) first link (length (p .walks))
 
 -- the same plan with its legs in another order
 pub record Alike (p p₁ : Plan) : Type 0 where

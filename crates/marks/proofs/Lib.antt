@@ -1,0 +1,6 @@
+pub mod Marks
+pub mod Answers
+pub mod MarkLaws
+pub mod Fronts
+pub mod Row
+pub mod Texts
