@@ -4,3 +4,6 @@ pub mod PlanLegs
 pub mod Chains
 pub mod Aboard
 pub mod LastLegs
+pub mod Arriving
+pub mod Naming
+pub mod Trails

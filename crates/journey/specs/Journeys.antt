@@ -6,7 +6,7 @@ use Prim.Native.Nat.{ℕ, suc, _+_, _≤_, _<_}
 use lib.Dec.{eqb}
 use lib.ListN.{length}
 use Rattle.plan.specs.declared.leg.Leg.{Leg}
-use Rattle.plan.specs.Legs.{Plan, runs, walk}
+use Rattle.plan.specs.Legs.{Plan, runs, walk, same-name}
 use Rattle.journey.specs.declared.question.Question.{Question}
 use Rattle.journey.specs.Steps.{stays, follows, begins}
 
@@ -19,6 +19,10 @@ same-leg a b =
 unfoldable pub in-plan : Leg → List Leg → Bool
 in-plan a [] = false
 in-plan a (b ∷ bs) = same-leg a b || in-plan a bs
+
+-- run and number name one leg of the plan
+abbrev pub Named-once : List Leg → Type 0
+Named-once ls = (a b : Leg) → in-plan a ls ≡ true → in-plan b ls ≡ true → same-name a b ≡ true → a ≡ b
 
 -- The legs of a journey are told forwards: the first, and the list of those after it.
 

@@ -1,3 +1,4 @@
 pub mod Steps
 pub mod Journeys
 pub mod Aboard
+pub mod Checked

@@ -9,10 +9,10 @@ use Rattle.std.proofs.shelf.Tests.{false≢true, cases-bool, or-cases, or-parts
 use Rattle.std.proofs.shelf.Ways.{tells}
 use Rattle.plan.specs.declared.leg.Leg.{Leg}
 use Rattle.plan.specs.Legs.{Plan, same-name}
-use Rattle.journey.specs.Journeys.{in-plan, joined, boats, last}
+use Rattle.journey.specs.Journeys.{in-plan, joined, boats, last, Named-once}
 use Rattle.journey.proofs.PlanLegs.{in-plan-none, in-plan-cases}
 use Rattle.journey.proofs.Chains.{Link, joined-says, joined-on, journey-on, last-more, boats-tail, boats-like}
-use Rattle.laws.specs.JourneyLaws.{named-in, named-twice, Named-once, No-leg-twice}
+use Rattle.laws.specs.JourneyLaws.{named-in, named-twice, No-leg-twice}
 
 -- a leg of the list is named in it
 named-there : (a b : Leg) (ls : List Leg) → same-name a b ≡ true → in-plan b ls ≡ true → named-in a ls ≡ true

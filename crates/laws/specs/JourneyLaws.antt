@@ -7,7 +7,7 @@ use Rattle.plan.specs.declared.leg.Leg.{Leg}
 use Rattle.plan.specs.Legs.{Plan, same-name}
 use Rattle.journey.specs.declared.question.Question.{Question}
 use Rattle.journey.specs.Steps.{stays, change-for}
-use Rattle.journey.specs.Journeys.{in-plan, boats, last, Ends, Journey, Reached, Reached-by}
+use Rattle.journey.specs.Journeys.{in-plan, boats, last, Ends, Journey, Reached, Reached-by, Named-once}
 
 -- the question from the pier s at the time t to the pier d
 abbrev pub asked : ℕ → ℕ → ℕ → Question
@@ -68,9 +68,6 @@ named-in a (b ∷ bs) = same-name a b || named-in a bs
 unfoldable pub named-twice : List Leg → Bool
 named-twice [] = false
 named-twice (a ∷ bs) = named-in a bs || named-twice bs
-
-abbrev pub Named-once : List Leg → Type 0
-Named-once ls = (a b : Leg) → in-plan a ls ≡ true → in-plan b ls ≡ true → same-name a b ≡ true → a ≡ b
 
 pub record Journey-once (p : Plan) (s t : ℕ) (end : Leg) (most : ℕ) : Type 0 where
   pub first : Leg
