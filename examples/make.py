@@ -1,9 +1,10 @@
 #!/usr/bin/env python3
-"""Writes the example files of this folder. docs/FORMAT.md has their format."""
+"""Writes the example files of this folder, and the input of the programs in the gate. docs/FORMAT.md has their format."""
 import pathlib
 import random
 
 HERE = pathlib.Path(__file__).parent
+CRATES = HERE.parent / "crates"
 
 
 def numbers(*values):
@@ -49,6 +50,45 @@ DAY = [
 # The same plan with the name of the first leg given to the second too.
 TWICE = [LEGS[0], (0, 0, 1, 2, 22, 35)] + LEGS[2:]
 (HERE / "one-name-twice.plan").write_bytes(plan(CHANGES, TWICE, WALKS))
+(CRATES / "office" / "stdin").write_bytes(plan(CHANGES, TWICE, WALKS))
+
+
+def journey(start, time, end, *legs):
+    return numbers(start, time, end, len(legs), *[number for leg in legs for number in leg])
+
+
+# Six piers, and journeys with every kind of break and every kind of end.
+SIX = plan(
+    [2, 3, 2, 0, 5, 1],
+    LEGS + [
+        (4, 0, 3, 4, 60, 50),  # does not run
+        (5, 1, 4, 5, 70, 70),  # takes no time, and stands before the leg that it follows
+        (5, 0, 3, 4, 70, 70),
+    ],
+    [(2, 3, 15), (3, 4, 4), (2, 3, 9), (0, 2, 30)],
+)
+JOURNEYS = [
+    journey(0, 9, 2, (0, 0), (0, 1)),  # 35/1: a stay, where a change takes longer than the boat waits
+    journey(0, 9, 2, (0, 0), (1, 0)),  # 30/2: a change
+    journey(0, 9, 3, (0, 0), (1, 0), (3, 0)),  # broken at 2: too short a change
+    journey(0, 9, 3, (0, 0), (0, 1)),  # 44/1: ended by the shorter of two walks
+    journey(0, 9, 2, (7, 0)),  # broken at 0: no such leg
+    journey(0, 9, 2, (0, 0), (0, 7)),  # broken at 1: no such leg
+    journey(3, 50, 4, (4, 0)),  # broken at 0: the leg does not run
+    journey(3, 60, 5, (5, 0), (5, 1)),  # 70/1: legs that take no time
+    journey(2, 50, 5, (5, 0), (5, 1)),  # 70/1: begun by a walk
+    journey(2, 62, 5, (5, 0), (5, 1)),  # broken at 0: the walk comes too late
+    journey(0, 9, 5, (2, 0), (5, 0), (5, 1)),  # 70/2: a walk between boats
+    journey(0, 9, 4, (2, 0)),  # broken at 1: two walks in a row lead there, and that is no journey
+    journey(0, 9, 5, (0, 0)),  # broken at 1: nothing leads on
+    journey(0, 11, 2, (0, 0), (0, 1)),  # broken at 0: the boat has left
+    journey(3, 60, 5, (5, 0), (5, 0)),  # broken at 1: the leg does not follow itself
+    journey(1, 5, 1),  # 5/0: there already
+    journey(2, 10, 3),  # 19/0: on foot, by the shorter of two walks
+    journey(2, 10, 4),  # broken at 0: two walks in a row
+]
+(HERE / "six-piers.journeys").write_bytes(SIX + b"".join(JOURNEYS))
+(CRATES / "inspect" / "stdin").write_bytes(SIX + b"".join(JOURNEYS))
 
 
 def three_lakes():

@@ -1,7 +1,7 @@
 use mathlib.Core.Path.{_∙_}
 use native.Mathlib.Omega.{arith}
 use Rattle.files.proofs.Decoding.{number-at}
-use Rattle.files.proofs.number_at.Needs as need
+use Rattle.files.proofs.numbers.number_at.Needs as need
 
 pub returns : need.returns
 returns c = record {

@@ -2,7 +2,7 @@ use borrow.Author.Needs.{needs}
 use mathlib.Core.Path.{sym, _∙_}
 use mathlib.Core.List.{[], _∷_, _++_}
 use Rattle.files.proofs.Decoding.{numbers-none, numbers-more}
-use Rattle.files.proofs.numbers.Needs as need
+use Rattle.files.proofs.numbers.numbers.Needs as need
 
 pub loop-i-holds : need.loop-i-holds
 loop-i-holds c = c .new-all .ensures .items ∙ sym (numbers-none _)
