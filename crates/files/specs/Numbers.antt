@@ -5,19 +5,19 @@ use Prim.Native.Nat.{ℕ, zero, suc, _+_, _*_, _/_, min}
 use lib.Dec.{ltb}
 use lib.ListN.{length, getD, drop}
 
--- the number that the first four bytes write down
-abbrev pub number-in : List ℕ → ℕ
-number-in bs = getD bs 0 0 + getD bs 1 0 * 256 + getD bs 2 0 * 65536 + getD bs 3 0 * 16777216
+-- the number that four bytes write down, from a place on
+abbrev pub number-at : List ℕ → ℕ → ℕ
+number-at bs at = getD bs at 0 + getD bs (at + 1) 0 * 256 + getD bs (at + 2) 0 * 65536 + getD bs (at + 3) 0 * 16777216
 
 -- the first n numbers
 unfoldable pub numbers-in : ℕ → List ℕ → List ℕ
 numbers-in zero bs = []
-numbers-in (suc n) bs = number-in bs ∷ numbers-in n (drop 4 bs)
+numbers-in (suc n) bs = number-at bs 0 ∷ numbers-in n (drop 4 bs)
 
 -- how many numbers the plan takes that a file begins with: as many as its three counts say
 abbrev pub plan-size : List ℕ → ℕ
-plan-size bs = cond (ltb (length bs) 12) 3 (3 + number-in bs + 6 * number-in (drop 4 bs) + 3 * number-in (drop 8 bs))
+plan-size bs = cond (ltb (length bs) 12) 3 (3 + number-at bs 0 + 6 * number-at bs 4 + 3 * number-at bs 8)
 
 -- the words of that plan, or all numbers that there are where the file is shorter
-unfoldable pub plan-words : List ℕ → List ℕ
+abbrev pub plan-words : List ℕ → List ℕ
 plan-words bs = numbers-in (min (plan-size bs) (length bs / 4)) bs

@@ -1,17 +1,17 @@
 // Numbers in a file: four bytes each, the low one first.
 ghost use mathlib.Core.Path.{_≡_};
 ghost use Prim.Native.Nat.{_+_, _*_, _/_, _<_, _≤_, min};
-ghost use lib.ListN.{length, drop};
+ghost use lib.ListN.{length};
 ghost use Rattle.std.specs.Of.Vec.{vec-items};
 ghost use Rattle.std.specs.Vec.{made};
-ghost use Rattle.files.specs.Numbers.{number-in, numbers-in, plan-size, plan-words};
+ghost use Rattle.files.specs.Numbers.{number-at, numbers-in, plan-size, plan-words};
 use std::alloc::AllocError;
 use std::alloc::Global;
 
 // The number whose four bytes begin at a place.
 pub fn number_at(bytes: &[u8], at: usize) -> u64
     requires { ⌜ at + 4 ≤ length (now bytes) ⌝ }
-    ensures value { λ r. ⌜ r ≡ number-in (drop at (now (bytes .entry))) ⌝ }
+    ensures value { λ r. ⌜ r ≡ number-at (now (bytes .entry)) at ⌝ }
     ensures bound { λ r. ⌜ r < 4294967296 ⌝ }
 {
     u64::from(u32::from_le_bytes([bytes[at], bytes[at + 1], bytes[at + 2], bytes[at + 3]]))

@@ -5,12 +5,13 @@ use Prim.Native.Nat.{ℕ, zero, suc, _+_, _*_}
 use native.Mathlib.Omega.{arith}
 use lib.ListN.{drop}
 use Rattle.std.proofs.shelf.Lists.{drop-drop}
-use Rattle.files.specs.Numbers.{number-in}
+use Rattle.files.specs.Numbers.{number-at}
+use Rattle.files.proofs.Decoding.{number-drop}
 use Rattle.journey.specs.declared.name.LegName.{LegName}
 use Rattle.inspect.specs.Told.{names-in}
 
 abbrev name-in : List ℕ → LegName
-name-in bs = record { run = number-in bs; number = number-in (drop 4 bs) }
+name-in bs = record { run = number-at bs 0; number = number-at bs 4 }
 
 pub names-none : (bs : List ℕ) → names-in 0 bs ≡ []
 unfolding names-in
@@ -28,10 +29,10 @@ names-push (suc n) b bs =
     ∙ (λ i. name-in (drop b bs) ∷ (names-in n (sym (drop-drop 8 b bs) i) ++ name-in (drop (f i) bs) ∷ []))
 
 -- one name more, by its two numbers
-pub names-more : (n r m : ℕ) (bs : List ℕ) → r ≡ number-in (drop (8 * n) bs) → m ≡ number-in (drop (8 * n + 4) bs) →
-    names-in (n + 1) bs ≡ names-in n bs ++ record { run = r; number = m } ∷ []
-names-more n r m bs e f =
+pub names-more : (n : ℕ) (bs : List ℕ) →
+    names-in (n + 1) bs ≡ names-in n bs ++ record { run = number-at bs (8 * n); number = number-at bs (8 * n + 4) } ∷ []
+names-more n bs =
     let z : 0 + 8 * n ≡ 8 * n = omega arith in
-    let g : m ≡ number-in (drop 4 (drop (8 * n) bs)) = f ∙ ap (λ k. number-in k) (sym (drop-drop 4 (8 * n) bs)) in
+    let e : 8 * n + 0 ≡ 8 * n = omega arith in
     names-push n 0 bs ∙ ap (λ k. names-in n bs ++ name-in (drop k bs) ∷ []) z
-    ∙ (λ i. names-in n bs ++ record { run = sym e i; number = sym g i } ∷ [])
+    ∙ (λ i. names-in n bs ++ record { run = (number-drop (8 * n) 0 bs ∙ ap (number-at bs) e) i; number = number-drop (8 * n) 4 bs i } ∷ [])

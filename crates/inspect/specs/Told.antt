@@ -11,7 +11,7 @@ use Rattle.std.specs.Of.Vec.{vec-items}
 use Rattle.std.specs.Written.{decimal}
 use Rattle.std.specs.declared.option.Option.{Option}
 use Rattle.std.specs.declared.option.Option.the-variants.{Some, None}
-use Rattle.files.specs.Numbers.{number-in}
+use Rattle.files.specs.Numbers.{number-at}
 use Rattle.journey.specs.declared.name.LegName.{LegName}
 use Rattle.journey.specs.declared.checking.Checked.{Checked}
 use Rattle.journey.specs.declared.checking.Checked.the-variants.{Reaches, Broken}
@@ -21,19 +21,19 @@ use Rattle.inspect.specs.declared.reading.Told.{Told}
 -- the names of the first n legs: run and number of each
 unfoldable pub names-in : ℕ → List ℕ → List LegName
 names-in zero bs = []
-names-in (suc n) bs = record { run = number-in bs; number = number-in (drop 4 bs) } ∷ names-in n (drop 8 bs)
+names-in (suc n) bs = record { run = number-at bs 0; number = number-at bs 4 } ∷ names-in n (drop 8 bs)
 
 -- how many bytes the journey takes that begins here: four numbers where there are no more
 abbrev pub told-size : List ℕ → ℕ
-told-size bs = cond (ltb (length bs) 16) 16 (16 + 8 * number-in (drop 12 bs))
+told-size bs = cond (ltb (length bs) 16) 16 (16 + 8 * number-at bs 12)
 
 -- the journey that these bytes begin with
 pub record Told-in (bs : List ℕ) (j : Told) : Type 0 where
   pub whole : told-size bs ≤ length bs
-  pub from : j .from ≡ number-in bs
-  pub time : j .time ≡ number-in (drop 4 bs)
-  pub to : j .to ≡ number-in (drop 8 bs)
-  pub legs : vec-items (j .legs) ≡ names-in (number-in (drop 12 bs)) (drop 16 bs)
+  pub from : j .from ≡ number-at bs 0
+  pub time : j .time ≡ number-at bs 4
+  pub to : j .to ≡ number-at bs 8
+  pub legs : vec-items (j .legs) ≡ names-in (number-at bs 12) (drop 16 bs)
   pub in-time : j .time < 4294967296
 
 -- or it is cut short

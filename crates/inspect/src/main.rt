@@ -3,6 +3,7 @@ ghost use mathlib.Core.Bool.{true};
 ghost use mathlib.Core.Path.{_≡_};
 ghost use Rattle.plan.specs.Check.{sound-words};
 ghost use Rattle.plan.specs.Words.{Whole};
+
 mod reading;
 mod telling;
 

@@ -9,5 +9,5 @@ loop-i-holds c = c .new-names .ensures .items ∙ sym (names-none _)
 pub loop-i-again : need.loop-i-again
 loop-i-again c =
     c .in-Continue-push .ensures tt .items
-    ∙ (λ j. c .loop-i .inv j ++ record { run = c .number-at-run .result; number = c .number-at-number .result } ∷ [])
-    ∙ sym (names-more (c .loop-i .i) _ _ (c .args .bytes .now) (c .number-at-run .ensures .value) (c .number-at-number .ensures .value))
+    ∙ (λ j. c .loop-i .inv j ++ record { run = c .number-at-run .ensures .value j; number = c .number-at-number .ensures .value j } ∷ [])
+    ∙ sym (names-more (c .loop-i .i) (c .args .bytes .now))

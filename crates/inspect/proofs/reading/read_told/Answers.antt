@@ -12,5 +12,5 @@ returns c = record {
   time = c .number-at-2 .ensures .value;
   to = c .number-at-3 .ensures .value;
   legs = c .in-Continue-legs .ensures tt ∙ (λ i. names-in (c .number-at-count .ensures .value i) (take-rest (c .args .bytes .now) 16 i));
-  in-time = c .number-at-2 .ensures .bound
+  in-time = c .number-at-2 .ensures .bound;
 }
