@@ -49,9 +49,11 @@ falling-same (m ∷ ms) (n ∷ ns) f g h k =
     let c = first-covers m n ns g (h m among-first) b in
     let d = first-covers n m ms f (k n among-first) a in
     let e : m ≡ n = mark-ext m n (omega arith) (omega arith) in
-    let ih = falling-same ms ns (falling-tail f) (falling-tail g)
-    (λ x i. let l = falling-head f x i in rest-covers x n ns (h x (among-later i)) (omega arith))
-    (λ x i. let l = falling-head g x i in rest-covers x m ms (k x (among-later i)) (omega arith)) in
+    let on : (x : Mark) → Among x ms → covered x ns ≡ true =
+    λ x i. let l = falling-head f x i in rest-covers x n ns (h x (among-later i)) (omega arith) in
+    let back : (x : Mark) → Among x ns → covered x ms ≡ true =
+    λ x i. let l = falling-head g x i in rest-covers x m ms (k x (among-later i)) (omega arith) in
+    let ih = falling-same ms ns (falling-tail f) (falling-tail g) on back in
     cc
 
 pub answers-same : {R : Mark → Type 0} {most : ℕ} {ms ns : List Mark} → Answer-of R most ms → Answer-of R most ns → ms ≡ ns

@@ -1,5 +1,5 @@
--- A front with one mark more.
-use mathlib.Core.Path.{_≡_, refl, sym, ap, _∙_}
+-- What a front holds, with one mark more, and round by round.
+use mathlib.Core.Path.{_≡_, refl, sym, ap, subst, _∙_}
 use mathlib.Core.Bool.{Bool, true, false, _&&_}
 use mathlib.Core.List.{List, [], _∷_, _++_}
 use mathlib.Core.Logic.{⊎-elim}
@@ -11,10 +11,12 @@ use Rattle.std.proofs.shelf.Lists.{length-take-le, take-more-set}
 use Rattle.std.proofs.shelf.Tests.{and-from, and-parts, cases-bool, cond-true, cond-both, lt-ltb, ltb-true, true≢false}
 use Rattle.std.proofs.shelf.Ways.{tells}
 use Rattle.marks.specs.declared.mark.Mark.{Mark}
+use Rattle.marks.specs.declared.front.Front.{Front}
 use Rattle.marks.specs.Marks.{no-worse, covered, Among, Falling, falls, falls-on, in-order}
 use Rattle.marks.specs.Answers.{Answer-of}
-use Rattle.marks.specs.Fronts.{accepts, with-mark}
-use Rattle.marks.proofs.Marks.{Before, no-worse-by, covered-up, uncovered, falling-push, falling-last, in-order-falling, falling-in-order}
+use Rattle.marks.specs.Fronts.{marks-of, accepts, with-mark}
+use Rattle.marks.proofs.Marks.{Before, no-worse-by, covered-up, uncovered, falling-push, falling-last}
+use Rattle.marks.proofs.Marks.{in-order-falling, falling-in-order}
 use Rattle.marks.proofs.Answers.{answer-same, answer-more, answer-short}
 
 and-true : (b : Bool) → (b && true) ≡ b
@@ -34,15 +36,15 @@ in-order-push m d (n ∷ ns) e h =
     let z : length ns ≡ suc (length ns) - 1 = omega arith in
     falls-on-push m n d ns e ∙ ap (λ k. falls (getD (n ∷ ns) k d) m) z
 
-module _ (row : List Mark) (count : ℕ) (m : Mark) (nine : length row ≡ 9) (within : count ≤ 9) where
-  held : length (take count row) ≡ count
-  held = length-take-le count row (omega arith)
+held : (row : List Mark) (count : ℕ) → length row ≡ 9 → count ≤ 9 → length (take count row) ≡ count
+held row count nine within = length-take-le count row (omega arith)
 
+module _ (row : List Mark) (count : ℕ) (m : Mark) (nine : length row ≡ 9) (within : count ≤ 9) where
   -- the last mark tells whether another can come next
   pub accepts-last : (ms : List Mark) (last : Mark) → ms ≡ take count row → in-order (take count row) ≡ true →
       0 < length ms → last ≡ getD ms (length ms - 1) last →
       accepts (take count row) m ≡ (ltb count 9 && falls last m)
-  accepts-last ms last all ordered some is = λ i. ltb (held i) 9 && behind i
+  accepts-last ms last all ordered some is = λ i. ltb (held row count nine within i) 9 && behind i
     where
       behind : in-order (take count row ++ m ∷ []) ≡ falls last m
       behind =
@@ -52,7 +54,9 @@ module _ (row : List Mark) (count : ℕ) (m : Mark) (nine : length row ≡ 9) (w
 
   module _ (next : accepts (take count row) m ≡ true) where
     pub room : count < 9
-    room = ltb-true count 9 (sym (ap (λ n. ltb n 9) held) ∙ and-parts (ltb (length (take count row)) 9) _ next .0)
+    room =
+        let fewer = ltb-true (length (take count row)) 9 (and-parts (ltb (length (take count row)) 9) _ next .0) in
+        omega (arith, held row count nine within)
 
     pub grown : take (count + 1) (set row count m) ≡ take count row ++ m ∷ []
     grown = take-more-set row count m (omega (arith, room))
@@ -62,6 +66,13 @@ module _ (row : List Mark) (count : ℕ) (m : Mark) (nine : length row ≡ 9) (w
 
     pub grown-with : take (count + 1) (set row count m) ≡ with-mark (take count row) m
     grown-with = grown ∙ sym (cond-true (accepts (take count row) m) (take count row ++ m ∷ []) (take count row) next)
+
+-- what every front has
+pub front-falling : (f : Front) → Falling (marks-of f)
+front-falling f = in-order-falling (marks-of f) (f .ordered)
+
+pub front-length : (f : Front) → length (marks-of f) ≡ f .count
+front-length f = held (f .row) (f .count) (f .nine) (f .within)
 
 -- what a falling list of fewer than nine becomes with a mark that falls on
 pub with-falling : (ms : List Mark) (m : Mark) → length ms < 9 → Falling (ms ++ m ∷ []) → with-mark ms m ≡ ms ++ m ∷ []
@@ -74,7 +85,7 @@ later n m e h = grind (arith, tells)
 
 -- A round's step. Of the marks with one boat more than the answer has, take one that is reached and that none arrives
 -- before. If it can come next, it is earlier than every mark so far: the answer has one mark more. If not, there is
--- room all the same, so some mark of the answer is no later: that one covers it, and all of its boats with it.
+-- room all the same, so some mark of the answer is no later: that one covers it, and with it each mark of as many boats.
 module _
     {R : Mark → Type 0} {k : ℕ} {ms : List Mark} (m : Mark)
     (bound : k < 8) (a : Answer-of R k ms) (r : R m) (boats : m .boats ≡ suc k)
@@ -95,8 +106,16 @@ module _
     next-earlier : accepts ms m ≡ true → (n : Mark) → Among n ms → m .arrival < n .arrival
     next-earlier e n i = falling-last m ms (in-order-falling _ (and-parts (ltb (length ms) 9) _ e .1)) n i .1
 
-    pub answer-with : Answer-of R (suc k) (with-mark ms m)
-    answer-with =
+    next-answer : Answer-of R (suc k) (with-mark ms m)
+    next-answer =
         cond-both (accepts ms m) (ms ++ m ∷ []) ms (Answer-of R (suc k))
         (λ e. answer-more m a r boats (next-earlier e) first)
         (λ e. answer-same a (λ n z b. let l = first n z b in covered-up m n ms (no-worse-by m n l (omega arith)) (covers e)))
+
+-- the same of what a loop makes of a front, with its own word for one boat more
+pub answer-with : {R : Mark → Type 0} {k : ℕ} {ms : List Mark} (next : ℕ) (m : Mark) (out : List Mark) →
+    next ≡ suc k → k < 8 → Answer-of R k ms → R m → m .boats ≡ next →
+    ((n : Mark) → R n → n .boats ≡ next → m .arrival ≤ n .arrival) → out ≡ with-mark ms m → Answer-of R next out
+answer-with {R} {k} next m out is bound a r boats first e =
+    let all = next-answer m bound a r (boats ∙ is) (λ n z b. first n z (b ∙ sym is)) in
+    subst (λ (j : ℕ). Answer-of R j out) (sym is) (subst (Answer-of R (suc k)) (sym e) all)

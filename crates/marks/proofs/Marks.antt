@@ -11,7 +11,8 @@ use Rattle.std.proofs.shelf.Lists.{drop-more, drop-all}
 use Rattle.std.proofs.shelf.Tests.{and-parts, or-parts}
 use Rattle.std.proofs.shelf.Ways.{tells}
 use Rattle.marks.specs.declared.mark.Mark.{Mark}
-use Rattle.marks.specs.Marks.{no-worse, covered, Among, among-first, among-later, Falling, falling-none, falling-one, falling-more, falls, falls-on, in-order}
+use Rattle.marks.specs.Marks.{no-worse, covered, falls, falls-on, in-order}
+use Rattle.marks.specs.Marks.{Among, among-first, among-later, Falling, falling-none, falling-one, falling-more}
 
 -- marks with the same arrival and the same boats are one mark
 pub mark-ext : (m n : Mark) → m .arrival ≡ n .arrival → m .boats ≡ n .boats → m ≡ n

@@ -1,4 +1,4 @@
--- What holds of marks and of answers, whatever is reached.
+-- What holds of marks, and of answers whatever is reached.
 use mathlib.Core.Bool.{true}
 use mathlib.Core.List.{List, _++_}
 use mathlib.Core.Path.{_≡_}
@@ -15,10 +15,11 @@ No-worse-order =
     × ((m n : Mark) → no-worse m n ≡ true → no-worse n m ≡ true → m ≡ n)
 
 -- a question has one answer
-abbrev pub One-answer : Type 1
-One-answer = (R : Mark → Type 0) (most : ℕ) (ms ns : List Mark) → Answer-of R most ms → Answer-of R most ns → ms ≡ ns
+abbrev pub One-answer : (Mark → Type 0) → Type 0
+One-answer R = (most : ℕ) (ms ns : List Mark) → Answer-of R most ms → Answer-of R most ns → ms ≡ ns
 
--- the answer for fewer boats is the part of the answer with at most so many, and it is its beginning
-abbrev pub Fewer-boats : Type 1
-Fewer-boats = (R : Mark → Type 0) (few most : ℕ) (ms : List Mark) → few ≤ most → Answer-of R most ms →
+-- the answer for fewer boats is the marks of the answer that have no more, and they are its beginning
+abbrev pub Fewer-boats : (Mark → Type 0) → Type 0
+Fewer-boats R =
+    (few most : ℕ) (ms : List Mark) → few ≤ most → Answer-of R most ms →
     Answer-of R few (up-to few ms) × ((rest : List Mark) × (ms ≡ up-to few ms ++ rest))

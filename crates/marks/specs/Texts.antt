@@ -1,6 +1,6 @@
 -- How marks are told.
 use mathlib.Core.List.{List, [], _∷_, _++_}
-use Prim.Native.Nat.{ℕ}
+use Prim.Native.Nat.{ℕ, zero, suc}
 use lib.Chars.{codes}
 use Rattle.std.specs.Joined.{joined}
 use Rattle.std.specs.Written.{decimal}
@@ -9,6 +9,11 @@ use Rattle.marks.specs.declared.mark.Mark.{Mark}
 -- `35/1`: there at 35 with one boat
 abbrev pub mark-text : Mark → List ℕ
 mark-text m = decimal (m .arrival) ++ (codes "/" ++ decimal (m .boats))
+
+-- what stands before the mark at a place of a line
+abbrev pub gap-text : ℕ → List ℕ
+gap-text zero = []
+gap-text (suc i) = codes " "
 
 -- a mark behind others
 abbrev pub next-text : Mark → List ℕ
