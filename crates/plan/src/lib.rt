@@ -2,7 +2,7 @@
 pub mod checking;
 pub mod counts;
 pub mod leg;
-mod order;
+pub mod order;
 pub mod refusal;
 pub mod timetable;
 pub mod walk;

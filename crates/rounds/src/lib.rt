@@ -1,2 +1,3 @@
 // The rounds: the answer to a question, with one boat, with one more, until so many.
 pub mod layout;
+pub mod opening;

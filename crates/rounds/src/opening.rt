@@ -1,0 +1,107 @@
+// A plan is laid out for questions: its legs by run and number, its walks chained by the pier they go from.
+ghost use mathlib.Core.Path.{_≡_};
+ghost use Prim.Native.Nat.{ℕ, _≤_, _<_};
+ghost use lib.ListN.{length, getD};
+ghost use Rattle.plan.specs.Legs.{no-leg, no-walk, leg, piers};
+ghost use Rattle.plan.specs.Words.{plan-in};
+ghost use Rattle.plan.specs.Keys.{Ordered};
+ghost use Rattle.rounds.specs.Layout.{JoinAt, Links, Laid, Alike};
+ghost use Rattle.rounds.specs.Opened.{plan-of, place-at, LegsLaid, IsJoined};
+use journey::steps::stays;
+use plan::leg::Leg;
+use plan::order::place_of;
+use plan::timetable::Timetable;
+use plan::walk::Walk;
+
+// The legs in the order of their keys.
+fn fill_legs(table: Timetable, keys: &[u64], legs: &mut [Leg])
+    requires ordered { ⌜ Ordered (plan-in (now (table .words))) (now keys) ⌝ }
+    requires few { ⌜ length (plan-in (now (table .words)) .legs) ≤ 65536 ⌝ }
+    requires size { ⌜ length (now legs) ≡ length (plan-in (now (table .words)) .legs) ⌝ }
+    ensures { λ _. ⌜ LegsLaid (plan-in (now (table .entry .words))) (now (keys .entry)) (now (legs .exit)) ⌝ }
+{
+    for c in 0..legs.len() {
+        legs[c] = table.leg(place_of(keys[c]));
+    }
+}
+
+// One may stay aboard for the leg `i` from the leg right before it.
+fn is_joined(legs: &[Leg], i: usize) -> bool
+    requires within { ⌜ i < length (now legs) ⌝ }
+    ensures { λ r. ⌜ IsJoined (now (legs .entry)) i r ⌝ }
+{
+    i > 0 && legs[i].runs() && stays(legs[i - 1], legs[i])
+}
+
+fn fill_joins(legs: &[Leg], joins: &mut [bool])
+    requires size { ⌜ length (now joins) ≡ length (now legs) ⌝ }
+    ensures { λ _. ⌜ ((i : ℕ) → i < length (now (legs .entry)) → JoinAt (now (legs .entry)) (now (joins .exit)) i) ⌝ }
+{
+    for i in 0..joins.len() {
+        joins[i] = is_joined(legs, i);
+    }
+}
+
+fn fill_walks(table: Timetable, walks: &mut [Walk])
+    requires size { ⌜ length (now walks) ≡ length (plan-in (now (table .words)) .walks) ⌝ }
+    ensures { λ _. ⌜ now (walks .exit) ≡ plan-in (now (table .entry .words)) .walks ⌝ }
+{
+    for j in 0..walks.len() {
+        walks[j] = table.walk(j);
+    }
+}
+
+fn fill_changes(table: Timetable, change: &mut [u64])
+    requires size { ⌜ length (now change) ≡ piers (plan-in (now (table .words))) ⌝ }
+    ensures { λ _. ⌜ now (change .exit) ≡ plan-in (now (table .entry .words)) .change ⌝ }
+{
+    for pier in 0..change.len() {
+        change[pier] = table.change(pier);
+    }
+}
+
+// Chains the walks of each pier. Each goes to the front of its chain, so that the chains need no room of their own.
+fn link_walks(walks: &[Walk], first: &mut [u16], link: &mut [u16])
+    requires few { ⌜ length (now walks) < 65536 ⌝ }
+    requires from { ⌜ ((j : ℕ) → j < length (now walks) → getD (now walks) j no-walk .from < length (now first)) ⌝ }
+    requires size { ⌜ length (now link) ≡ length (now walks) ⌝ }
+    ensures { λ _. ⌜ Links (now (walks .entry)) (length (now (first .exit))) (now (first .exit)) (now (link .exit)) (length (now (walks .entry))) ⌝ }
+{
+    first.fill(0);
+    for j in 0..walks.len() {
+        let pier = walks[j].from as usize;
+        link[j] = first[pier];
+        first[pier] = j as u16 + 1;
+    }
+}
+
+// Lays the plan out in the lent rows. The keys of its legs are those that the check left in order.
+pub fn lay_out(
+    table: Timetable,
+    keys: &[u64],
+    legs: &mut [Leg],
+    joins: &mut [bool],
+    walks: &mut [Walk],
+    change: &mut [u64],
+    first: &mut [u16],
+    link: &mut [u16],
+)
+    requires ordered { ⌜ Ordered (plan-in (now (table .words))) (now keys) ⌝ }
+    requires few_legs { ⌜ length (now legs) ≤ 65536 ⌝ }
+    requires few_walks { ⌜ length (now walks) < 65536 ⌝ }
+    requires legs { ⌜ length (now legs) ≡ length (plan-in (now (table .words)) .legs) ⌝ }
+    requires joins { ⌜ length (now joins) ≡ length (now legs) ⌝ }
+    requires walks { ⌜ length (now walks) ≡ length (plan-in (now (table .words)) .walks) ⌝ }
+    requires change { ⌜ length (now change) ≡ piers (plan-in (now (table .words))) ⌝ }
+    requires first { ⌜ length (now first) ≡ length (now change) ⌝ }
+    requires link { ⌜ length (now link) ≡ length (now walks) ⌝ }
+    ensures legs { λ _. ⌜ LegsLaid (plan-in (now (table .entry .words))) (now (keys .entry)) (now (legs .exit)) ⌝ }
+    ensures alike { λ _. ⌜ Alike (plan-in (now (table .entry .words))) (plan-of (now (legs .exit)) (now (walks .exit)) (now (change .exit))) ⌝ }
+    ensures laid { λ _. ⌜ Laid (plan-of (now (legs .exit)) (now (walks .exit)) (now (change .exit))) (now (joins .exit)) (now (first .exit)) (now (link .exit)) ⌝ }
+{
+    fill_legs(table, keys, legs);
+    fill_joins(legs, joins);
+    fill_walks(table, walks);
+    fill_changes(table, change);
+    link_walks(walks, first, link);
+}
