@@ -27,8 +27,8 @@ row-filled d xs ys long is = same-lists xs ys long (λ i e h.
     getD-default xs i e d h ∙ is i h ∙ getD-default ys i d e (omega arith))
 
 -- ---- the walks: each goes from a pier that has a chain
-pub walks-from : {p : Plan} {ws : List Walk} {n : ℕ} → Sound p → ws ≡ p .walks → n ≡ piers p → (j : ℕ) → j < length ws →
-    getD ws j no-walk .from < n
+pub walks-from : {p : Plan} {ws : List Walk} {n : ℕ} → Sound p → ws ≡ p .walks → n ≡ piers p →
+    (j : ℕ) → j < length ws → getD ws j no-walk .from < n
 walks-from {p} {ws} {n} s is many j h =
     let w = s .walks j (omega (arith, ap length is)) in
     let e = ap (λ (zs : List Walk). getD zs j no-walk .from) is in
@@ -37,7 +37,8 @@ walks-from {p} {ws} {n} s is many j h =
 -- ---- one more of the joins
 pub joins-more : {legs : List Leg} {joins : List Bool} (i : ℕ) (r : Bool) → i < length joins → IsJoined legs i r →
     ((m : ℕ) → m < i → JoinAt legs joins m) → (m : ℕ) → m < i + 1 → JoinAt legs (set joins i r) m
-joins-more {legs} {joins} i r h is before m l = ⊎-elim earlier (λ ge. subst (JoinAt legs (set joins i r)) (omega arith) here) (cases-lt m i)
+joins-more {legs} {joins} i r h is before m l =
+    ⊎-elim earlier (λ ge. subst (JoinAt legs (set joins i r)) (omega arith) here) (cases-lt m i)
   where
     earlier : m < i → JoinAt legs (set joins i r) m
     earlier lt =

@@ -65,7 +65,8 @@ fn link_walks(walks: &[Walk], first: &mut [u16], link: &mut [u16])
     requires few { ⌜ length (now walks) < 65536 ⌝ }
     requires from { ⌜ ((j : ℕ) → j < length (now walks) → getD (now walks) j no-walk .from < length (now first)) ⌝ }
     requires size { ⌜ length (now link) ≡ length (now walks) ⌝ }
-    ensures { λ _. ⌜ Links (now (walks .entry)) (length (now (first .exit))) (now (first .exit)) (now (link .exit)) (length (now (walks .entry))) ⌝ }
+    ensures { λ _. ⌜ Links (now (walks .entry)) (length (now (first .exit)))
+        (now (first .exit)) (now (link .exit)) (length (now (walks .entry))) ⌝ }
 {
     first.fill(0);
     for j in 0..walks.len() {
@@ -96,8 +97,10 @@ pub fn lay_out(
     requires first { ⌜ length (now first) ≡ length (now change) ⌝ }
     requires link { ⌜ length (now link) ≡ length (now walks) ⌝ }
     ensures legs { λ _. ⌜ LegsLaid (plan-in (now (table .entry .words))) (now (keys .entry)) (now (legs .exit)) ⌝ }
-    ensures alike { λ _. ⌜ Alike (plan-in (now (table .entry .words))) (plan-of (now (legs .exit)) (now (walks .exit)) (now (change .exit))) ⌝ }
-    ensures laid { λ _. ⌜ Laid (plan-of (now (legs .exit)) (now (walks .exit)) (now (change .exit))) (now (joins .exit)) (now (first .exit)) (now (link .exit)) ⌝ }
+    ensures alike { λ _. ⌜ Alike (plan-in (now (table .entry .words)))
+        (plan-of (now (legs .exit)) (now (walks .exit)) (now (change .exit))) ⌝ }
+    ensures laid { λ _. ⌜ Laid (plan-of (now (legs .exit)) (now (walks .exit)) (now (change .exit)))
+        (now (joins .exit)) (now (first .exit)) (now (link .exit)) ⌝ }
 {
     fill_legs(table, keys, legs);
     fill_joins(legs, joins);
