@@ -18,7 +18,7 @@ use Rattle.journey.specs.Steps.{stays}
 use Rattle.journey.specs.Journeys.{in-plan}
 use Rattle.journey.proofs.PlanLegs.{in-plan-place, place-in-plan}
 use Rattle.rounds.specs.Layout.{JoinAt, InRuns, Links, Laid, Alike}
-use Rattle.rounds.specs.Opened.{plan-of, place-at, LegsLaid, IsJoined}
+use Rattle.rounds.specs.Opened.{place-at, LegsLaid, IsJoined}
 
 -- ---- a row that was filled place by place
 pub row-filled : {A : Type 0} (d : A) (xs ys : List A) → length xs ≡ length ys →

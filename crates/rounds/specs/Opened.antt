@@ -2,17 +2,28 @@
 use mathlib.Core.Path.{_≡_}
 use mathlib.Core.Bool.{Bool, true}
 use mathlib.Core.List.{List}
-use Prim.Native.Nat.{ℕ, suc, _<_}
+use Prim.Native.Nat.{ℕ, suc, _≤_, _<_}
 use lib.ListN.{length, getD}
 use Rattle.plan.specs.declared.leg.Leg.{Leg}
 use Rattle.plan.specs.declared.walk.Walk.{Walk}
-use Rattle.plan.specs.Legs.{Plan, no-leg, leg, runs}
+use Rattle.plan.specs.Legs.{Plan, no-leg, leg, piers, runs}
 use Rattle.plan.specs.Keys.{name-of, key-place}
 use Rattle.journey.specs.Steps.{stays}
 
 -- the plan that the rows hold
 abbrev pub plan-of : List Leg → List Walk → List ℕ → Plan
 plan-of legs walks change = record { legs = legs; walks = walks; change = change }
+
+-- rows of the lengths that the plan has, and places in them that a key and a link can tell
+pub record Room (p : Plan) (legs : List Leg) (joins : List Bool) (walks : List Walk) (change first link : List ℕ) : Type 0 where
+  pub few-legs : length legs ≤ 65536
+  pub few-walks : length walks < 65536
+  pub legs-long : length legs ≡ length (p .legs)
+  pub joins-long : length joins ≡ length legs
+  pub walks-long : length walks ≡ length (p .walks)
+  pub change-long : length change ≡ piers p
+  pub first-long : length first ≡ length change
+  pub link-long : length link ≡ length walks
 
 -- the place in the plan of the leg that the key at a place was made for
 abbrev pub place-at : List ℕ → ℕ → ℕ

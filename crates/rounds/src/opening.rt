@@ -2,11 +2,12 @@
 ghost use mathlib.Core.Path.{_≡_};
 ghost use Prim.Native.Nat.{ℕ, _≤_, _<_};
 ghost use lib.ListN.{length, getD};
-ghost use Rattle.plan.specs.Legs.{no-leg, no-walk, leg, piers};
+ghost use Rattle.plan.specs.Legs.{no-walk, piers};
 ghost use Rattle.plan.specs.Words.{plan-in};
 ghost use Rattle.plan.specs.Keys.{Ordered};
 ghost use Rattle.rounds.specs.Layout.{JoinAt, Links, Laid, Alike};
-ghost use Rattle.rounds.specs.Opened.{plan-of, place-at, LegsLaid, IsJoined};
+ghost use Rattle.rounds.specs.Opened.{plan-of, Room, LegsLaid, IsJoined};
+use super::layout::Layout;
 use journey::steps::stays;
 use plan::leg::Leg;
 use plan::order::place_of;
@@ -88,14 +89,8 @@ pub fn lay_out(
     link: &mut [u16],
 )
     requires ordered { ⌜ Ordered (plan-in (now (table .words))) (now keys) ⌝ }
-    requires few_legs { ⌜ length (now legs) ≤ 65536 ⌝ }
-    requires few_walks { ⌜ length (now walks) < 65536 ⌝ }
-    requires legs { ⌜ length (now legs) ≡ length (plan-in (now (table .words)) .legs) ⌝ }
-    requires joins { ⌜ length (now joins) ≡ length (now legs) ⌝ }
-    requires walks { ⌜ length (now walks) ≡ length (plan-in (now (table .words)) .walks) ⌝ }
-    requires change { ⌜ length (now change) ≡ piers (plan-in (now (table .words))) ⌝ }
-    requires first { ⌜ length (now first) ≡ length (now change) ⌝ }
-    requires link { ⌜ length (now link) ≡ length (now walks) ⌝ }
+    requires room { ⌜ Room (plan-in (now (table .words)))
+        (now legs) (now joins) (now walks) (now change) (now first) (now link) ⌝ }
     ensures legs { λ _. ⌜ LegsLaid (plan-in (now (table .entry .words))) (now (keys .entry)) (now (legs .exit)) ⌝ }
     ensures alike { λ _. ⌜ Alike (plan-in (now (table .entry .words)))
         (plan-of (now (legs .exit)) (now (walks .exit)) (now (change .exit))) ⌝ }
@@ -107,4 +102,46 @@ pub fn lay_out(
     fill_walks(table, walks);
     fill_changes(table, change);
     link_walks(walks, first, link);
+}
+
+// The rows to lay a plan out in, of the lengths that the plan has.
+pub struct Rows<'a> {
+    pub legs: &'a mut [Leg],
+    pub joins: &'a mut [bool],
+    pub walks: &'a mut [Walk],
+    pub first: &'a mut [u16],
+    pub link: &'a mut [u16],
+    pub change: &'a mut [u64],
+}
+
+impl<'a> Rows<'a> {
+    // The plan laid out in these rows.
+    pub fn lay_out(self, table: Timetable, keys: &[u64]) -> Layout<'a>
+        requires ordered { ⌜ Ordered (plan-in (now (table .words))) (now keys) ⌝ }
+        requires room { ⌜ Room (plan-in (now (table .words))) (now (self .legs)) (now (self .joins)) (now (self .walks))
+            (now (self .change)) (now (self .first)) (now (self .link)) ⌝ }
+        ensures legs { λ r. ⌜ LegsLaid (plan-in (now (table .entry .words))) (now (keys .entry)) (now (r .legs)) ⌝ }
+        ensures alike { λ r. ⌜ Alike (plan-in (now (table .entry .words)))
+            (plan-of (now (r .legs)) (now (r .walks)) (now (r .change))) ⌝ }
+        ensures laid { λ r. ⌜ Laid (plan-of (now (r .legs)) (now (r .walks)) (now (r .change)))
+            (now (r .joins)) (now (r .first)) (now (r .link)) ⌝ }
+    {
+        let Rows {
+            legs,
+            joins,
+            walks,
+            first,
+            link,
+            change,
+        } = self;
+        lay_out(table, keys, legs, joins, walks, change, first, link);
+        Layout {
+            legs,
+            joins,
+            walks,
+            first,
+            link,
+            change,
+        }
+    }
 }
