@@ -1,3 +1,4 @@
 // The rounds: the answer to a question, with one boat, with one more, until so many.
 pub mod layout;
 pub mod opening;
+pub mod query;
