@@ -170,6 +170,16 @@ not-refused xs u =
     then-ok-counts (counts-checked xs) (parts-checked (plan-in xs))
     ∙ and-from _ _ (few-counts xs (u .long) (u .whole) (omega (arith, f .piers)) (omega (arith, f .legs)) (omega (arith, f .walks))) (checked-from-sound (plan-in xs) (u .sound))
 
+-- every leg of a plan that is not refused has a key
+pub checked-fit : (xs : List ℕ) → isOk (plan-checked xs) ≡ true → isOk (counts-checked xs) && all-fit (plan-in xs) ≡ true
+unfolding plan-checked
+checked-fit xs h =
+    let p = plan-in xs in
+    let both = and-parts _ _ (sym (then-ok-counts (counts-checked xs) (parts-checked p)) ∙ h) in
+    let legs = and-parts (all-below (leg-ok p) (length (p .legs))) (all-below (walk-ok p) (length (p .walks)) && all-below (change-ok p) (piers p))
+    (sym (parts-ok p) ∙ both .1) .0 in
+    and-from _ _ (both .0) (all-below-from (fits p) (length (p .legs)) (λ i l. leg-is p legs i l .0))
+
 pub opens : (xs : List ℕ) → isOk (plan-checked xs) ≡ true → sound-words xs ≡ true
 unfolding sound-words plan-checked
 opens xs h =

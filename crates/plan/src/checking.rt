@@ -3,7 +3,7 @@ ghost use mathlib.Core.Path.{_≡_};
 ghost use mathlib.Core.Bool.{true, false, cond};
 ghost use Prim.Native.Nat.{_<_, _≤_};
 ghost use lib.Dec.{leb};
-ghost use lib.ListN.{length};
+ghost use lib.ListN.{length, take};
 ghost use Rattle.std.specs.declared.option.Option.the-variants.{Some, None};
 ghost use Rattle.std.specs.Results.{isOk};
 ghost use Rattle.plan.specs.Legs.{leg, walk, change-at, piers};
@@ -216,6 +216,7 @@ pub fn check_in_order(words: &[u64], keys: &mut [u64]) -> Result<Counts, Refusal
     ensures usable { λ r. ⌜ (isOk r ≡ true → Usable (now (words .entry))) ⌝ }
     ensures just { λ r. ⌜ (Usable (now (words .entry)) → isOk r ≡ true) ⌝ }
     ensures opens { λ r. ⌜ (isOk r ≡ true → sound-words (now (words .entry)) ≡ true) ⌝ }
+    ensures ordered { λ r. ⌜ (isOk r ≡ true → Ordered (plan-in (now (words .entry))) (take (length (plan-in (now (words .entry)) .legs)) (now (keys .exit)))) ⌝ }
     ensures keys { λ _. ⌜ KeysLeft (now (words .entry)) (now (keys .entry)) (now (keys .exit)) ⌝ }
 {
     check_all(words, keys)
