@@ -1,3 +1,11 @@
 pub mod Alike
 pub mod Ordering
 pub mod Laying
+pub mod Levels
+pub mod Cells
+pub mod Scans
+pub mod Passes
+pub mod Thinning
+pub mod Answers
+pub mod Nesting
+pub mod Questions

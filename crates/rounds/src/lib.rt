@@ -1,4 +1,7 @@
 // The rounds: the answer to a question, with one boat, with one more, until so many.
+pub mod asking;
 pub mod layout;
 pub mod opening;
 pub mod query;
+pub mod rounds;
+pub mod steps;
