@@ -6,3 +6,4 @@ pub mod Levels
 pub mod Times
 pub mod Boarding
 pub mod Answers
+pub mod Entry
