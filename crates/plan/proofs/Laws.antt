@@ -36,7 +36,7 @@ within-leg n a h = record {
   comes = grind (arith, tells);
 }
 
-leg-fits : (n : ℕ) (a : Leg) → LegWithin n a → leg-within n a ≡ true
+pub leg-fits : (n : ℕ) (a : Leg) → LegWithin n a → leg-within n a ≡ true
 leg-fits n a w = grind (arith, tells)
 
 within-walk : (n : ℕ) (w : Walk) → walk-within n w ≡ true → WalkWithin n w

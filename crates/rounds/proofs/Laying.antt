@@ -2,8 +2,8 @@
 use mathlib.Core.Path.{_≡_, ap, sym, subst, _∙_}
 use mathlib.Core.Bool.{Bool, true, false}
 use mathlib.Core.List.{List}
-use mathlib.Core.Logic.{_⊎_, inl, inr, ⊎-elim}
-use Prim.Native.Nat.{ℕ, suc, _+_, _*_, _≤_, _<_}
+use mathlib.Core.Logic.{inl, inr, ⊎-elim}
+use Prim.Native.Nat.{ℕ, suc, _+_, _≤_, _<_}
 use native.Mathlib.Omega.{arith}
 use lib.ListN.{length, getD, set}
 use Rattle.std.proofs.shelf.Lists.{same-lists, getD-default, getD-set-same, getD-set-other}
@@ -52,6 +52,8 @@ joins-more {legs} {joins} i r h is before m l =
         record { given = λ e. is .given (sym n ∙ e); told = λ j s a b. n ∙ is .told j s a b }
 
 -- ---- the legs
+--
+-- one stays aboard for the leg of the next name
 next-name : (a b : Leg) → stays a b ≡ true → name-of b ≡ suc (name-of a)
 next-name a b e =
     let r : a .run ≡ b .run = grind (arith, tells) in
@@ -59,7 +61,7 @@ next-name a b e =
     omega arith
 
 module _ (p : Plan) (keys : List ℕ) (legs : List Leg) (laid : LegsLaid p keys legs) where
-  -- Names rise, and the next leg of a run has the next name: no leg stands between the two.
+  -- Names rise, so no leg stands between two whose names follow each other.
   legs-in-runs : InRuns legs
   legs-in-runs i j hi hj st =
       let next = next-name (getD legs j no-leg) (getD legs i no-leg) st in
@@ -83,6 +85,7 @@ module _ (p : Plan) (keys : List ℕ) (legs : List Leg) (laid : LegsLaid p keys 
         ]
       ]
 
+  -- each leg of the plan stands in the row, and each leg of the row in the plan
   legs-there : (a : Leg) → in-plan a (p .legs) ≡ true → in-plan a legs ≡ true
   legs-there a e =
       let z = in-plan-place a (p .legs) e in
@@ -97,6 +100,8 @@ module _ (p : Plan) (keys : List ℕ) (legs : List Leg) (laid : LegsLaid p keys 
       (place-in-plan (p .legs) (place-at keys (z .place)) (laid .within (z .place) (z .within)))
 
 -- ---- all rows
+--
+-- what filling them has left in them, in a plan p₁ that has the legs, walks and changes of the rows
 pub record Filled (p : Plan) (keys : List ℕ) (p₁ : Plan) (joins : List Bool) (first link : List ℕ) : Type 0 where
   pub joins-long : length joins ≡ length (p₁ .legs)
   pub first-long : length first ≡ piers p

@@ -2,8 +2,8 @@
 use mathlib.Core.Path.{_≡_, refl, ap, sym, _∙_}
 use mathlib.Core.Bool.{true, cond}
 use mathlib.Core.List.{List, [], _∷_}
-use mathlib.Core.Logic.{_⊎_, inl, inr}
-use Prim.Native.Nat.{ℕ, _+_, _*_, _≤_, _<_}
+use mathlib.Core.Logic.{inl, inr}
+use Prim.Native.Nat.{ℕ, _+_, _≤_, _<_}
 use native.Mathlib.Omega.{arith}
 use lib.Dec.{eqb}
 use lib.ListN.{length, getD, set, take}
@@ -20,14 +20,14 @@ use Rattle.std.proofs.shelf.Tests.{and-from, cases-eq, cases-order, eq-eqb, ne-
 use Rattle.std.proofs.shelf.Ways.{tells}
 use Rattle.plan.specs.declared.leg.Leg.{Leg}
 use Rattle.plan.specs.declared.refusal.Refusal.{Refusal}
-use Rattle.plan.specs.Legs.{Plan, no-leg, leg, leg-within, piers}
+use Rattle.plan.specs.Legs.{Plan, no-leg, leg, piers}
 use Rattle.plan.specs.Words.{plan-in}
 use Rattle.plan.specs.Check.{then, fits, counts-checked, parts-checked, plan-checked}
-use Rattle.plan.specs.Sound.{LegWithin, Sound}
+use Rattle.plan.specs.Sound.{Sound}
 use Rattle.plan.specs.Keys.{name-of, key-of, key-place, leg-keys, all-fit, Ordered, KeysLeft}
 use Rattle.plan.proofs.Firsts.{all-below-from}
 use Rattle.plan.proofs.Keys.{length-keys, getD-keys}
-use Rattle.plan.proofs.Laws.{usable}
+use Rattle.plan.proofs.Laws.{leg-fits, usable}
 use Rattle.rounds.specs.Opened.{place-at, LegsLaid}
 
 -- ---- no two places hold one number, and an exchange of two places keeps that
@@ -75,6 +75,7 @@ module _ (l : List ℕ) (a b : ℕ) (p : a < length l) (q : b < length l) where
             ]
       ]
 
+  -- Each place has its number from one other place, and no two from the same.
   exchange-apart : Apart l → Apart (exchanged l a b)
   exchange-apart h i j hi hj e =
       let n = length-exchanged l a b in
@@ -115,6 +116,7 @@ module _ (p : Plan) (keys : List ℕ) (few : length (p .legs) ≤ 65536) (o : Or
   pub place-within : (c : ℕ) → c < length keys → place-at keys c < length (p .legs)
   place-within c h = told c h .within
 
+  -- and each leg's key stands somewhere
   stands : (i : ℕ) → i < length (p .legs) → (c : ℕ) × (c < length keys) × (place-at keys c ≡ i)
   stands i h =
       let all = leg-keys 0 (p .legs) in
@@ -136,6 +138,7 @@ module _ (p : Plan) (keys : List ℕ) (few : length (p .legs) ≤ 65536) (o : Or
           let b = made j (omega arith) in
           omega arith
 
+  -- keys that tell one place are the key of one leg
   once : (c m : ℕ) → c < length keys → m < length keys → place-at keys c ≡ place-at keys m → c ≡ m
   once c m hc hm e =
       keys-apart c m hc hm (told c hc .key ∙ ap (λ i. key-of (leg p i) i) e ∙ sym (told m hm .key))
@@ -190,12 +193,10 @@ counts-ok : (xs : List ℕ) → isOk (plan-checked xs) ≡ true → isOk (counts
 unfolding plan-checked
 counts-ok xs h = then-first (counts-checked xs) (λ c. then (parts-checked (plan-in xs)) (λ _. Ok c)) h
 
-leg-fits : (n : ℕ) (a : Leg) → LegWithin n a → leg-within n a ≡ true
-leg-fits n a w = grind (arith, tells)
-
 sound-fit : (p : Plan) → Sound p → all-fit p ≡ true
 sound-fit p s = all-below-from (fits p) (length (p .legs)) (λ i l. leg-fits (piers p) (leg p i) (s .legs i l))
 
+-- Where nothing is wrong every leg is within its bounds, so each had a key.
 pub checked-ordered : {xs row row₁ : List ℕ} → isOk (plan-checked xs) ≡ true → KeysLeft xs row row₁ →
     Ordered (plan-in xs) (take (length (plan-in xs .legs)) row₁)
 checked-ordered {xs} h left =

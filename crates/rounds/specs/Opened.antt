@@ -43,5 +43,5 @@ pub record LegsLaid (p : Plan) (keys : List ℕ) (legs : List Leg) : Type 0 wher
 pub record IsJoined (legs : List Leg) (i : ℕ) (r : Bool) : Type 0 where
   pub given : r ≡ true →
       (j : ℕ) × (suc j ≡ i) × (stays (getD legs j no-leg) (getD legs i no-leg) ≡ true) × (runs (getD legs i no-leg) ≡ true)
-  pub told : (j : ℕ) → suc j ≡ i → stays (getD legs j no-leg) (getD legs i no-leg) ≡ true → runs (getD legs i no-leg) ≡ true →
-      r ≡ true
+  pub told : (j : ℕ) → suc j ≡ i → stays (getD legs j no-leg) (getD legs i no-leg) ≡ true →
+      runs (getD legs i no-leg) ≡ true → r ≡ true

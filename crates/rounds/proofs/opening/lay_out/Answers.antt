@@ -1,10 +1,7 @@
 use borrow.Author.Needs.{needs}
-use mathlib.Core.Path.{_≡_, ap, subst, sym, _∙_}
+use mathlib.Core.Path.{_≡_}
 use mathlib.Core.Bool.{true}
-use Prim.Native.Nat.{_<_}
 use native.Mathlib.Omega.{arith}
-use lib.ListN.{length, getD}
-use Rattle.plan.specs.Legs.{no-walk}
 use Rattle.plan.specs.Words.{plan-in}
 use Rattle.plan.specs.Check.{sound-words}
 use Rattle.plan.proofs.Laws.{sound-plan}
