@@ -3,8 +3,12 @@ use mathlib.Core.Path.{_≡_, sym, subst}
 use mathlib.Core.Bool.{true}
 use mathlib.Core.List.{List, [], _∷_}
 use Prim.Native.Nat.{ℕ}
+use lib.ListN.{length}
+use Rattle.std.specs.declared.result.Result.{Result}
+use Rattle.std.specs.declared.result.Result.the-variants.{Ok, Err}
 use Rattle.plan.specs.declared.leg.Leg.{Leg}
-use Rattle.plan.specs.Legs.{Plan}
+use Rattle.plan.specs.declared.refusal.Refusal.{Refusal}
+use Rattle.plan.specs.Legs.{Plan, piers}
 use Rattle.journey.specs.declared.question.Question.{Question}
 use Rattle.journey.specs.Journeys.{in-plan, joined, Ends, Journey, Reached}
 use Rattle.journey.specs.Journeys.Ends.{at-once, on-foot}
@@ -12,7 +16,11 @@ use Rattle.journey.specs.Journeys.Reached.{without-boat, by-legs}
 use Rattle.journey.proofs.Chains.{joined-none, joined-says, joined-more}
 use Rattle.marks.specs.declared.mark.Mark.{Mark}
 use Rattle.marks.specs.Answers.{Answer-of}
+use Rattle.rounds.specs.declared.query.Query.{Query}
+use Rattle.rounds.specs.declared.reply.Reply.{Reply}
 use Rattle.rounds.specs.Layout.{Alike}
+use Rattle.rounds.specs.Query.{query-checked}
+use Rattle.rounds.specs.Entry.{Answered-by, Told}
 
 -- ---- other legs, among which are all those of the plan
 abbrev with-legs : Plan → List Leg → Plan
@@ -78,3 +86,13 @@ module _ {p p₁ : Plan} (s : Alike p p₁) where
     few = a .few;
     all = λ m r h. a .all m (reached-alike-back r) h;
   }
+
+-- what a question is told of the one plan it is told of the other
+pub answered-alike : (p p₁ : Plan) → Alike p p₁ → (qs row : List ℕ) (r : Reply) (row₁ : List ℕ) →
+    Answered-by (query-checked (piers p₁) qs) p₁ row r row₁ → Answered-by (query-checked (piers p) qs) p row r row₁
+answered-alike p p₁ a qs row r row₁ x =
+    by (query-checked (piers p) qs) (subst (λ cs. Answered-by (query-checked (length cs) qs) p₁ row r row₁) (a .change) x)
+  where
+    by : (o : Result Query Refusal) → Answered-by o p₁ row r row₁ → Answered-by o p row r row₁
+    by (Err e) x = x
+    by (Ok q) x = record { marks = x .marks; answer = answer-alike a (x .answer); reply = x .reply; after = x .after }

@@ -64,3 +64,59 @@ pub fn answer_opened(layout: Layout, question: &[u64], out: &mut [u64]) -> Reply
         Err(refusal) => Reply::Refused(refusal),
     }
 }
+
+// The answer to a question about a checked plan: lays it out in rows on the stack, and asks.
+pub fn answer_checked(table: Timetable, keys: &[u64], question: &[u64], out: &mut [u64]) -> Reply
+    requires ordered { ⌜ Ordered (plan-in (now (table .words))) (now keys) ⌝ }
+    requires few { ⌜ Few (plan-in (now (table .words))) ⌝ }
+    ensures { λ r. ⌜ Answered-by (query-checked (piers (plan-in (now (table .entry .words)))) (now (question .entry)))
+        (plan-in (now (table .entry .words))) (now (out .entry)) r (now (out .exit)) ⌝ }
+{
+    let legs = table.legs();
+    let walks = table.walks();
+    let piers = table.piers();
+    let no_leg = Leg {
+        run: 0,
+        number: 0,
+        from: 0,
+        to: 0,
+        leaves: 0,
+        comes: 0,
+    };
+    let no_walk = Walk {
+        from: 0,
+        to: 0,
+        takes: 0,
+    };
+    let mut leg_row = [no_leg; 1024];
+    let mut join_row = [false; 1024];
+    let mut walk_row = [no_walk; 256];
+    let mut first_row = [0u16; 64];
+    let mut link_row = [0u16; 256];
+    let mut change_row = [0u64; 64];
+    let rows = Rows {
+        legs: &mut leg_row[0..legs],
+        joins: &mut join_row[0..legs],
+        walks: &mut walk_row[0..walks],
+        first: &mut first_row[0..piers],
+        link: &mut link_row[0..walks],
+        change: &mut change_row[0..piers],
+    };
+    answer_opened(rows.lay_out(table, keys), question, out)
+}
+
+// The answer to a question about a plan in lent memory, written into the lent row: the count of marks, and the arrival
+// and the boats of each. Where it is refused, the row is as it was.
+pub fn answer(plan: &[u64], question: &[u64], out: &mut [u64]) -> Reply
+    ensures { λ r. ⌜ Answered (now (plan .entry)) (now (question .entry)) (now (out .entry)) r (now (out .exit)) ⌝ }
+{
+    let mut keys = [0u64; 1024];
+    match check_in_order(plan, &mut keys) {
+        Ok(_) => {
+            let table = Timetable::of(plan);
+            let legs = table.legs();
+            answer_checked(table, &keys[0..legs], question, out)
+        }
+        Err(refusal) => Reply::Refused(refusal),
+    }
+}
