@@ -4,3 +4,4 @@ pub mod InTwo
 pub mod NotBefore
 pub mod NoLegTwice
 pub mod Harbour
+pub mod OneAnswer

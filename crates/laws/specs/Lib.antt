@@ -1,2 +1,4 @@
+pub mod PlanLaws
 pub mod JourneyLaws
 pub mod JourneyExamples
+pub mod AnswerLaws
