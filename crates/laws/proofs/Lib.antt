@@ -5,3 +5,7 @@ pub mod NotBefore
 pub mod NoLegTwice
 pub mod Harbour
 pub mod OneAnswer
+pub mod Best
+pub mod Rides
+pub mod AllMarks
+pub mod FourPiers

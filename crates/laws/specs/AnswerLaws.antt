@@ -7,6 +7,7 @@ use Rattle.journey.specs.declared.question.Question.{Question}
 use Rattle.journey.specs.Journeys.{Reached}
 use Rattle.marks.specs.declared.mark.Mark.{Mark}
 use Rattle.marks.specs.Answers.{Answer-of, up-to}
+use Rattle.laws.specs.Computed.{answer-of}
 
 -- some journey that answers the question has this mark
 abbrev pub Mark-reached : Plan → Question → Mark → Type 0
@@ -30,3 +31,7 @@ Fewer-boats-of-plans =
 -- there is an answer to every question, in a plan of any size
 abbrev pub Always-answered : Type 0
 Always-answered = (p : Plan) (most : ℕ) (q : Question) → (ms : List Mark) × Answer p most q ms
+
+-- and the one that is computed, leg by leg and boat by boat, is the answer
+abbrev pub Computed-answers : Type 0
+Computed-answers = (p : Plan) (most : ℕ) (q : Question) → Answer p most q (answer-of p most q)
