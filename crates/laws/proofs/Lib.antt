@@ -3,6 +3,7 @@ pub mod MoreLegs
 pub mod InTwo
 pub mod NotBefore
 pub mod NoLegTwice
+pub mod OneVerdict
 pub mod Harbour
 pub mod OneAnswer
 pub mod Best

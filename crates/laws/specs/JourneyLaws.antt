@@ -6,8 +6,11 @@ use Prim.Native.Nat.{ℕ, _+_, _≤_}
 use Rattle.plan.specs.declared.leg.Leg.{Leg}
 use Rattle.plan.specs.Legs.{Plan, same-name}
 use Rattle.journey.specs.declared.question.Question.{Question}
+use Rattle.journey.specs.declared.name.LegName.{LegName}
+use Rattle.journey.specs.declared.checking.Checked.{Checked}
 use Rattle.journey.specs.Steps.{stays, change-for}
 use Rattle.journey.specs.Journeys.{in-plan, boats, last, Ends, Journey, Reached, Reached-by, Named-once}
+use Rattle.journey.specs.Checked.{Verdict}
 
 -- the question from the pier s at the time t to the pier d
 abbrev pub asked : ℕ → ℕ → ℕ → Question
@@ -81,3 +84,10 @@ abbrev pub No-leg-twice : Type 0
 No-leg-twice =
     (p : Plan) (s t : ℕ) (a : Leg) (xs : List Leg) → Named-once (p .legs) → Journey p s t a xs →
     Journey-once p s t (last a xs) (boats a xs)
+
+-- Of a journey told by the names of its legs one thing alone is true, if run and number name one leg of the plan: that
+-- it reaches the pier, at one time and with one count of boats, or that it breaks, at one place.
+abbrev pub One-verdict : Type 0
+One-verdict =
+    (p : Plan) (s t d : ℕ) (names : List LegName) (r r₁ : Checked) → Named-once (p .legs) →
+    Verdict p s t d names r → Verdict p s t d names r₁ → r ≡ r₁

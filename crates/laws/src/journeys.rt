@@ -1,5 +1,5 @@
 // The laws of journeys.
-ghost use Rattle.laws.specs.JourneyLaws.{Later-no-better, More-legs, In-two, Not-before, No-leg-twice};
+ghost use Rattle.laws.specs.JourneyLaws.{Later-no-better, More-legs, In-two, Not-before, No-leg-twice, One-verdict};
 ghost use Rattle.laws.specs.JourneyExamples.{Examples-stand};
 
 // Who sets out later is no better off.
@@ -33,6 +33,13 @@ pub fn nobody_is_there_before() -> u8
 // No journey needs a leg twice.
 pub fn no_leg_is_needed_twice() -> u8
     ensures { λ _. ⌜ No-leg-twice ⌝ }
+{
+    0
+}
+
+// A journey told by the names of its legs has one verdict.
+pub fn one_verdict_is_right() -> u8
+    ensures { λ _. ⌜ One-verdict ⌝ }
 {
     0
 }
