@@ -1,5 +1,5 @@
 -- The computed marks are those of journeys, and none is missing: so the best of them are the answer.
-use mathlib.Core.Path.{_≡_, refl, sym, ap, subst, _∙_}
+use mathlib.Core.Path.{_≡_, refl, sym, subst, _∙_}
 use mathlib.Core.Bool.{Bool, true, _&&_, _||_, cond}
 use mathlib.Core.List.{List, [], _∷_, _++_}
 use mathlib.Core.Logic.{_⊎_, inl, inr}
@@ -15,7 +15,7 @@ use Rattle.plan.specs.declared.leg.Leg.{Leg}
 use Rattle.plan.specs.declared.walk.Walk.{Walk}
 use Rattle.plan.specs.Legs.{Plan, runs, no-walk}
 use Rattle.journey.specs.declared.question.Question.{Question}
-use Rattle.journey.specs.Journeys.{in-plan, boats, last, Ends, Journey, Reached}
+use Rattle.journey.specs.Journeys.{in-plan, boats, last, Ends, Reached}
 use Rattle.journey.specs.Journeys.Ends.{at-once, on-foot}
 use Rattle.journey.specs.Journeys.Reached.{without-boat, by-legs}
 use Rattle.journey.specs.Aboard.{Usable}
@@ -26,7 +26,7 @@ use Rattle.journey.proofs.LastLegs.{journey-aboard}
 use Rattle.marks.specs.declared.mark.Mark.{Mark}
 use Rattle.marks.specs.Marks.{covered}
 use Rattle.laws.specs.AnswerLaws.{Mark-reached, Answer, Always-answered}
-use Rattle.laws.specs.Computed.{rides, marks-on-foot, marks-at, marks-by, all-marks, best, answer-of}
+use Rattle.laws.specs.Computed.{rides, marks-on-foot, marks-at, marks-by, all-marks, answer-of}
 use Rattle.laws.proofs.Best.{best-answers}
 use Rattle.laws.proofs.Rides.{Ride, rides-out, journey-rides}
 
@@ -142,7 +142,8 @@ module _ (p : Plan) (q : Question) where
       let fewer = all-weaker (Reached-within k) M (λ m z. (z .0, omega arith)) (all-marks p q k) (all-marks-reached k) in
       all-append M (marks-by p q k (p .legs)) (all-marks p q k) by fewer
 
-  -- the mark of a leg that is ridden is there
+  -- The mark of a leg that is ridden is there: the legs are gone through one after the other, and where it is the leg at
+  -- hand its marks are put in front of the others. (It is the leg itself that is met, not only one of its name.)
   marks-by-covers : (k u : ℕ) (b : Leg) (ls : List Leg) → in-plan b ls ≡ true → runs b ≡ true →
       rides p (q .from) (q .time) k b ≡ true → Ends p (q .to) (b .to) (b .comes) u →
       covered (mark u (suc k)) (marks-by p q k ls) ≡ true

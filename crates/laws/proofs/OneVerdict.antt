@@ -2,21 +2,20 @@
 use mathlib.Core.Path.{_≡_, refl, sym, ap, subst, _∙_}
 use mathlib.Core.Bool.{true}
 use mathlib.Core.List.{List, [], _∷_, map}
-use mathlib.Core.Logic.{_⊎_, inl, inr, ⊎-elim}
-use Prim.Native.Nat.{ℕ, zero, suc, _+_, _≤_, _<_}
+use mathlib.Core.Logic.{⊎-elim}
+use Prim.Native.Nat.{ℕ, zero, suc, _≤_, _<_}
 use native.Mathlib.Omega.{arith}
 use lib.ListN.{length, take}
-use Rattle.std.proofs.shelf.Lists.{take-all, take-take, take-map}
+use Rattle.std.proofs.shelf.Lists.{take-take, take-map}
 use Rattle.std.proofs.shelf.Tests.{cases-lt}
 use Rattle.std.specs.declared.option.Option.{Option}
 use Rattle.std.specs.declared.option.Option.the-variants.{Some, None}
 use Rattle.plan.specs.declared.leg.Leg.{Leg}
 use Rattle.plan.specs.Legs.{Plan}
 use Rattle.journey.specs.declared.name.LegName.{LegName}
-use Rattle.journey.specs.declared.checking.Checked.{Checked}
 use Rattle.journey.specs.declared.checking.Checked.the-variants.{Reaches, Broken}
-use Rattle.journey.specs.Journeys.{in-plan, joined, boats, last, Journey, Named-once}
-use Rattle.journey.specs.Checked.{name, Earliest-end, Goes, Reaching, Breaking, Verdict}
+use Rattle.journey.specs.Journeys.{in-plan, joined, boats, last, Named-once}
+use Rattle.journey.specs.Checked.{name, Earliest-end, Goes, Reaching, Breaking}
 use Rattle.journey.specs.Checked.Reaching.{on-no-boat, by-boat}
 use Rattle.journey.specs.Checked.Breaking.{at-first, at-leg, at-no-end, on-no-foot}
 use Rattle.journey.proofs.Naming.{same-named}
@@ -24,6 +23,10 @@ use Rattle.journey.proofs.Chains.{joined-none, joined-says, joined-on, journey-
 use Rattle.laws.specs.JourneyLaws.{One-verdict}
 
 -- ---- how far the names go
+--
+-- A beginning of the names of a journey's legs is one too. So there is one place as far as which the names are those of
+-- a journey and no further: names that go as far as a later place go on at the earlier one. A journey that reaches the
+-- pier goes as far as its last name, and one that breaks goes as far as the place where it breaks.
 
 -- a beginning of a chain is a chain
 joined-take : (p : Plan) (n : ℕ) (a : Leg) (bs : List Leg) → joined p a bs ≡ true → joined p a (take n bs) ≡ true
@@ -119,6 +122,9 @@ module _ (p : Plan) (s t : ℕ) where
   breaking-far {names = names} (on-no-foot h e) = far-none names h
 
 -- ---- where the names have all been gone through
+--
+-- Run and number name one leg, so the legs of the journey are known from their names, and with them its last leg and its
+-- boats. From the last leg there is one earliest time at the pier, or none at all.
 
 earliest-same : (p : Plan) (d s t : ℕ) (o o₁ : Option ℕ) → Earliest-end p d s t o → Earliest-end p d s t o₁ → o ≡ o₁
 earliest-same p d s t None None e f = refl

@@ -1,11 +1,10 @@
 -- The legs that are ridden with so many boats are the last legs of the journeys that take so many.
-use mathlib.Core.Path.{_≡_, refl, sym, ap, subst, _∙_}
+use mathlib.Core.Path.{_≡_, sym, ap, subst, _∙_}
 use mathlib.Core.Bool.{Bool, true, false, _&&_, _||_, not}
 use mathlib.Core.List.{List, [], _∷_, _++_}
 use mathlib.Core.Logic.{_⊎_, inl, inr}
 use Prim.Native.Nat.{ℕ, zero, suc, _+_}
 use native.Mathlib.Omega.{arith}
-use Rattle.std.proofs.shelf.Ways.{tells}
 use Rattle.std.proofs.shelf.Tests.{cases-bool, or-cases, and-parts, and-from, or-left, or-right, false≢true, not-true}
 use Rattle.plan.specs.declared.leg.Leg.{Leg}
 use Rattle.plan.specs.Legs.{Plan, runs}
@@ -50,6 +49,11 @@ some-out f (b ∷ bs) e = at (or-cases (runs b && f b) (some-leg bs f) e) (some-
         record { leg = k .leg; known = in-plan-later (k .leg) b bs (k .known); going = k .going; passes = k .passes }
 
 -- ---- a leg that is ridden is the last of a journey
+--
+-- The boats are counted exactly, not "at most": so each way in which a leg comes to be ridden is one way to make a
+-- journey one leg longer. A leg boarded at the outset is a journey of its own. One that is stayed aboard for is put
+-- behind a journey with as many boats, and one that is boarded from another leg, where one could not stay, behind a
+-- journey with one boat less.
 
 -- a journey with k + 1 boats whose last leg is b
 pub record Ride (p : Plan) (s t k : ℕ) (b : Leg) : Type 0 where
@@ -133,6 +137,10 @@ module _ (p : Plan) (s t : ℕ) where
   rides-out (suc k) b u e = aboard-out (suc k) (boarded k) (boarded-out k (rides-out k)) (b .number) b u e
 
   -- ---- and back: along a journey each leg is ridden
+  --
+  -- The first leg is ridden with one boat. From leg to leg one stays, and the next is ridden with as many boats, or one
+  -- cannot stay and boards, and it is ridden with one more: as the boats of the journey are counted. A leg is reached by
+  -- no more stays than its number says, since each stay takes the number up by one.
 
   aboard-afresh : (f : Leg → Bool) (n : ℕ) (b : Leg) → f b ≡ true → aboard (p .legs) f n b ≡ true
   unfolding aboard
@@ -194,4 +202,5 @@ module _ (p : Plan) (s t : ℕ) where
   pub journey-rides : (n : ℕ) (a : Leg) (bs : List Leg) → Journey p s t a bs → suc n ≡ boats a bs →
       rides p s t n (last a bs) ≡ true
   journey-rides n a bs j e =
-      rides-along 0 n a bs (record { known = j .known; going = j .going }) (j .linked) (rides-first a (j .begun)) (omega arith)
+      let u : Usable p a = record { known = j .known; going = j .going } in
+      rides-along 0 n a bs u (j .linked) (rides-first a (j .begun)) (omega arith)

@@ -5,7 +5,7 @@ ghost use Rattle.laws.specs.AnswerLaws.{One-answer-of-plans, Fewer-boats-of-pl
 ghost use Rattle.laws.specs.AnswerExamples.{Table-stands};
 
 // Any relation that says which marks are reached.
-pub trait Reaching {
+pub trait ReachedMarks {
     ghost reached: { Mark → Type 0 };
 }
 
@@ -17,8 +17,8 @@ pub fn no_worse_is_an_order() -> u8
 }
 
 // A question has at most one answer, whatever is reached.
-pub fn one_answer_of_any<T: Reaching>() -> u8
-    ensures { λ _. ⌜ One-answer (T·Reaching .reached) ⌝ }
+pub fn one_answer_of_any<T: ReachedMarks>() -> u8
+    ensures { λ _. ⌜ One-answer (T·ReachedMarks .reached) ⌝ }
 {
     0
 }
@@ -31,8 +31,8 @@ pub fn one_answer_of_plans() -> u8
 }
 
 // With fewer boats the answer is the beginning of the one with more, whatever is reached.
-pub fn fewer_boats_of_any<T: Reaching>() -> u8
-    ensures { λ _. ⌜ Fewer-boats (T·Reaching .reached) ⌝ }
+pub fn fewer_boats_of_any<T: ReachedMarks>() -> u8
+    ensures { λ _. ⌜ Fewer-boats (T·ReachedMarks .reached) ⌝ }
 {
     0
 }
