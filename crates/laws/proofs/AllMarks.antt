@@ -25,7 +25,8 @@ use Rattle.journey.proofs.Aboard.{aboard-in}
 use Rattle.journey.proofs.LastLegs.{journey-aboard}
 use Rattle.marks.specs.declared.mark.Mark.{Mark}
 use Rattle.marks.specs.Marks.{covered}
-use Rattle.laws.specs.AnswerLaws.{Mark-reached, Answer, Always-answered}
+use Rattle.rounds.specs.Answers.{Mark-reached, Answer}
+use Rattle.laws.specs.AnswerLaws.{Always-answered}
 use Rattle.laws.specs.Computed.{rides, marks-on-foot, marks-at, marks-by, all-marks, answer-of}
 use Rattle.laws.proofs.Best.{best-answers}
 use Rattle.laws.proofs.Rides.{Ride, rides-out, journey-rides}

@@ -4,7 +4,7 @@ use mathlib.Core.List.{List, [], _∷_}
 use Rattle.std.specs.shelf.Lists.{All}
 use Rattle.journey.specs.Steps.{walks-to}
 use Rattle.laws.specs.JourneyLaws.{asked}
-use Rattle.laws.specs.AnswerLaws.{Answer}
+use Rattle.rounds.specs.Answers.{Answer}
 use Rattle.laws.specs.AnswerExamples.{Row, Row-stands, table, Table-stands}
 use Rattle.laws.specs.Computed.{aboard, rides, answer-of}
 use Rattle.laws.proofs.AllMarks.{computed-answers}

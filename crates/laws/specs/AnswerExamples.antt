@@ -6,7 +6,7 @@ use Rattle.plan.specs.declared.leg.Leg.{Leg}
 use Rattle.plan.specs.Legs.{Plan}
 use Rattle.marks.specs.declared.mark.Mark.{Mark}
 use Rattle.laws.specs.JourneyLaws.{asked}
-use Rattle.laws.specs.AnswerLaws.{Answer}
+use Rattle.rounds.specs.Answers.{Answer}
 
 abbrev pub leg-from : ℕ → ℕ → ℕ → ℕ → ℕ → ℕ → Leg
 leg-from r n f t l c = record { run = r; number = n; from = f; to = t; leaves = l; comes = c }

@@ -4,18 +4,10 @@ use mathlib.Core.List.{List, _++_}
 use Prim.Native.Nat.{ℕ, _≤_}
 use Rattle.plan.specs.Legs.{Plan}
 use Rattle.journey.specs.declared.question.Question.{Question}
-use Rattle.journey.specs.Journeys.{Reached}
 use Rattle.marks.specs.declared.mark.Mark.{Mark}
-use Rattle.marks.specs.Answers.{Answer-of, up-to}
+use Rattle.marks.specs.Answers.{up-to}
+use Rattle.rounds.specs.Answers.{Answer}
 use Rattle.laws.specs.Computed.{answer-of}
-
--- some journey that answers the question has this mark
-abbrev pub Mark-reached : Plan → Question → Mark → Type 0
-Mark-reached p q m = Reached p q (m .arrival) (m .boats)
-
--- the answer to a question, with at most so many boats
-abbrev pub Answer : Plan → ℕ → Question → List Mark → Type 0
-Answer p most q = Answer-of (Mark-reached p q) most
 
 -- a question has at most one answer
 abbrev pub One-answer-of-plans : Type 0

@@ -14,9 +14,13 @@ use Rattle.marks.specs.Answers.{Answer-of}
 use Rattle.rounds.specs.Levels.{Aboard-from}
 use Rattle.rounds.specs.Times.{never}
 
--- with at most so many boats these marks are the ones worth telling
+-- some journey that answers the question has this mark
+abbrev pub Mark-reached : Plan → Question → Mark → Type 0
+Mark-reached p q m = Reached p q (m .arrival) (m .boats)
+
+-- the answer to a question: with at most so many boats these marks are the ones worth telling
 abbrev pub Answer : Plan → ℕ → Question → List Mark → Type 0
-Answer p most q ms = Answer-of (λ m. Reached p q (m .arrival) (m .boats)) most ms
+Answer p most q = Answer-of (Mark-reached p q) most
 
 -- with at most the boats of the mark one is at the pier `to` at its arrival: without a boat, at `foot` if that is a
 -- time, or from a leg that one is aboard of

@@ -10,6 +10,8 @@ use Rattle.plan.specs.Words.{plan-in}
 use Rattle.plan.specs.Check.{then, plan-checked}
 use Rattle.plan.specs.Refusals.{number-of, place-of}
 use Rattle.marks.specs.declared.mark.Mark.{Mark}
+use Rattle.marks.specs.declared.front.Front.{Front}
+use Rattle.marks.specs.Fronts.{marks-of}
 use Rattle.marks.specs.Row.{row-reply, row-after}
 use Rattle.rounds.specs.declared.query.Query.{Query}
 use Rattle.rounds.specs.declared.reply.Reply.{Reply}
@@ -34,6 +36,12 @@ reply-value (Refused e) = place-of e
 -- the question that the numbers ask of the plan that the words hold, or the first refusal that applies
 abbrev pub asked : List ℕ → List ℕ → Result Query Refusal
 asked xs qs = then (plan-checked xs) (λ _. query-checked (piers (plan-in xs)) qs)
+
+-- the marks of the answer, or the refusal
+abbrev pub Marked-by : Result Query Refusal → Plan → Result Front Refusal → Type 0
+Marked-by (Err e) p r = r ≡ Err e
+Marked-by (Ok a) p (Ok f) = Answer p (a .most) (a .question) (marks-of f)
+Marked-by (Ok a) p (Err e) = ⊥
 
 -- the marks of the answer stand in the row: their count and two numbers a mark, and past them what it held; a row that
 -- is too short is refused and is as it was

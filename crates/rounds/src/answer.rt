@@ -10,7 +10,7 @@ ghost use Rattle.marks.specs.Fronts.{marks-of};
 ghost use Rattle.rounds.specs.Query.{query-checked};
 ghost use Rattle.rounds.specs.Rows.{plan-of, Lies};
 ghost use Rattle.rounds.specs.Answers.{Answer, Asked};
-ghost use Rattle.rounds.specs.Entry.{Answered, Answered-by};
+ghost use Rattle.rounds.specs.Entry.{Answered, Answered-by, Marked-by};
 use crate::asking::answer_laid;
 use crate::layout::Layout;
 use crate::opening::Rows;
@@ -20,6 +20,7 @@ use crate::reply::Reply;
 use marks::front::Front;
 use plan::checking::check_in_order;
 use plan::leg::Leg;
+use plan::refusal::Refusal;
 use plan::timetable::Timetable;
 use plan::walk::Walk;
 
@@ -52,7 +53,17 @@ fn ask(layout: Layout, query: Query) -> Front
     )
 }
 
-// The answer to a question about a plan that was laid out before: nothing of the plan is checked again.
+// The marks that answer a question about a plan that was laid out before: nothing of the plan is checked again.
+pub fn marks_opened(layout: Layout, question: &[u64]) -> Result<Front, Refusal>
+    requires laid { ⌜ Lies layout ⌝ }
+    requires few { ⌜ Few (plan-of layout) ⌝ }
+    ensures { λ r. ⌜ Marked-by (query-checked (piers (plan-of (layout .entry))) (now (question .entry))) (plan-of (layout .entry)) r ⌝ }
+{
+    let query = read_query(layout.change.len(), question)?;
+    Ok(ask(layout, query))
+}
+
+// The same, written into the lent row.
 pub fn answer_opened(layout: Layout, question: &[u64], out: &mut [u64]) -> Reply
     requires laid { ⌜ Lies layout ⌝ }
     requires few { ⌜ Few (plan-of layout) ⌝ }
