@@ -50,7 +50,25 @@ DAY = [
 # The same plan with the name of the first leg given to the second too.
 TWICE = [LEGS[0], (0, 0, 1, 2, 22, 35)] + LEGS[2:]
 (HERE / "one-name-twice.plan").write_bytes(plan(CHANGES, TWICE, WALKS))
-(CRATES / "office" / "stdin").write_bytes(plan(CHANGES, TWICE, WALKS))
+
+# Questions to the four piers: with more boats and with fewer, to where one is already, to where nothing leads, and
+# questions that are refused; the last is cut short.
+QUESTIONS = [
+    request(0, 0, 9, 2, 3),  # 35/1 30/2
+    request(0, 0, 9, 3, 3),  # 50/1 45/2
+    request(0, 0, 9, 2, 1),  # 35/1
+    request(0, 0, 9, 2, 0),  # an empty line: nobody is there without a boat
+    request(0, 0, 11, 2, 8),  # 45/1: run 0 has left
+    request(0, 2, 40, 3, 8),  # 55/0: on foot
+    request(0, 1, 5, 1, 8),  # 5/0: there already
+    request(0, 3, 0, 0, 8),  # an empty line: nothing leads there
+    request(0, 4, 9, 2, 3),  # refused 3 at 0
+    request(0, 0, 9, 4, 3),  # refused 3 at 2
+    request(0, 0, 9, 2, 9),  # refused 3 at 3
+    request(0, 0, 9),  # refused 3 at 2
+]
+(HERE / "four-piers.questions").write_bytes(FOUR + b"".join(QUESTIONS))
+(CRATES / "office" / "stdin").write_bytes(FOUR + b"".join(QUESTIONS))
 
 
 def journey(start, time, end, *legs):

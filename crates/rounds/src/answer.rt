@@ -12,6 +12,8 @@ ghost use Rattle.rounds.specs.Rows.{plan-of, Lies};
 ghost use Rattle.rounds.specs.Answers.{Answer, Asked};
 ghost use Rattle.rounds.specs.Entry.{Answered, Answered-by, Marked-by};
 use crate::asking::answer_laid;
+use crate::layout::BLANK_LEG;
+use crate::layout::BLANK_WALK;
 use crate::layout::Layout;
 use crate::opening::Rows;
 use crate::query::Query;
@@ -19,10 +21,8 @@ use crate::query::read_query;
 use crate::reply::Reply;
 use marks::front::Front;
 use plan::checking::check_in_order;
-use plan::leg::Leg;
 use plan::refusal::Refusal;
 use plan::timetable::Timetable;
-use plan::walk::Walk;
 
 // The answer to a question about a plan that is laid out, with working rows on the stack.
 fn ask(layout: Layout, query: Query) -> Front
@@ -83,37 +83,21 @@ pub fn answer_checked(table: Timetable, keys: &[u64], question: &[u64], out: &mu
     ensures { λ r. ⌜ Answered-by (query-checked (piers (plan-in (now (table .entry .words)))) (now (question .entry)))
         (plan-in (now (table .entry .words))) (now (out .entry)) r (now (out .exit)) ⌝ }
 {
-    let legs = table.legs();
-    let walks = table.walks();
-    let piers = table.piers();
-    let no_leg = Leg {
-        run: 0,
-        number: 0,
-        from: 0,
-        to: 0,
-        leaves: 0,
-        comes: 0,
-    };
-    let no_walk = Walk {
-        from: 0,
-        to: 0,
-        takes: 0,
-    };
-    let mut leg_row = [no_leg; 1024];
-    let mut join_row = [false; 1024];
-    let mut walk_row = [no_walk; 256];
-    let mut first_row = [0u16; 64];
-    let mut link_row = [0u16; 256];
-    let mut change_row = [0u64; 64];
+    let mut legs = [BLANK_LEG; 1024];
+    let mut joins = [false; 1024];
+    let mut walks = [BLANK_WALK; 256];
+    let mut first = [0u16; 64];
+    let mut link = [0u16; 256];
+    let mut change = [0u64; 64];
     let rows = Rows {
-        legs: &mut leg_row[0..legs],
-        joins: &mut join_row[0..legs],
-        walks: &mut walk_row[0..walks],
-        first: &mut first_row[0..piers],
-        link: &mut link_row[0..walks],
-        change: &mut change_row[0..piers],
+        legs: &mut legs,
+        joins: &mut joins,
+        walks: &mut walks,
+        first: &mut first,
+        link: &mut link,
+        change: &mut change,
     };
-    answer_opened(rows.lay_out(table, keys), question, out)
+    answer_opened(rows.lay_out_within(table, keys), question, out)
 }
 
 // The answer to a question about a plan in lent memory, written into the lent row: the count of marks, and the arrival

@@ -16,3 +16,19 @@ pub struct Layout<'a> {
     // For each pier what a change of boats takes there.
     pub change: &'a [u64],
 }
+
+// What stands in a row before a plan is laid out in it.
+pub const BLANK_LEG: Leg = Leg {
+    run: 0,
+    number: 0,
+    from: 0,
+    to: 0,
+    leaves: 0,
+    comes: 0,
+};
+
+pub const BLANK_WALK: Walk = Walk {
+    from: 0,
+    to: 0,
+    takes: 0,
+};

@@ -4,9 +4,10 @@ ghost use Prim.Native.Nat.{ℕ, _≤_, _<_};
 ghost use lib.ListN.{length, getD};
 ghost use Rattle.plan.specs.Legs.{no-walk, piers};
 ghost use Rattle.plan.specs.Words.{plan-in};
+ghost use Rattle.plan.specs.Sound.{Few};
 ghost use Rattle.plan.specs.Keys.{Ordered};
 ghost use Rattle.rounds.specs.Layout.{JoinAt, Links, Laid, Alike};
-ghost use Rattle.rounds.specs.Opened.{plan-of, Room, LegsLaid, IsJoined};
+ghost use Rattle.rounds.specs.Opened.{plan-of, Room, Ample, LegsLaid, IsJoined};
 use super::layout::Layout;
 use journey::steps::stays;
 use plan::leg::Leg;
@@ -143,5 +144,39 @@ impl<'a> Rows<'a> {
             link,
             change,
         }
+    }
+
+    // The plan laid out in the fronts of these rows, which may be longer than the plan asks.
+    pub fn lay_out_within(self, table: Timetable, keys: &[u64]) -> Layout<'a>
+        requires ordered { ⌜ Ordered (plan-in (now (table .words))) (now keys) ⌝ }
+        requires few { ⌜ Few (plan-in (now (table .words))) ⌝ }
+        requires ample { ⌜ Ample (now (self .legs)) (now (self .joins)) (now (self .walks)) (now (self .change))
+            (now (self .first)) (now (self .link)) ⌝ }
+        ensures alike { λ r. ⌜ Alike (plan-in (now (table .entry .words)))
+            (plan-of (now (r .legs)) (now (r .walks)) (now (r .change))) ⌝ }
+        ensures laid { λ r. ⌜ Laid (plan-of (now (r .legs)) (now (r .walks)) (now (r .change)))
+            (now (r .joins)) (now (r .first)) (now (r .link)) ⌝ }
+        ensures few { λ r. ⌜ Few (plan-of (now (r .legs)) (now (r .walks)) (now (r .change))) ⌝ }
+    {
+        let Rows {
+            legs,
+            joins,
+            walks,
+            first,
+            link,
+            change,
+        } = self;
+        let leg_count = table.legs();
+        let walk_count = table.walks();
+        let pier_count = table.piers();
+        let fronts = Rows {
+            legs: &mut legs[0..leg_count],
+            joins: &mut joins[0..leg_count],
+            walks: &mut walks[0..walk_count],
+            first: &mut first[0..pier_count],
+            link: &mut link[0..walk_count],
+            change: &mut change[0..pier_count],
+        };
+        fronts.lay_out(table, keys)
     }
 }

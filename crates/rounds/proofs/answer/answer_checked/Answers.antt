@@ -5,5 +5,5 @@ use Rattle.rounds.proofs.answer.answer_checked.Needs as need
 
 pub returns : need.returns
 returns c =
-    answered-alike (plan-in (c .args .table .words .now)) (plan-of (c .lay-out .result)) (c .lay-out .ensures .alike) (c .args .question .now) (c .args .out .now)
+    answered-alike (plan-in (c .args .table .words .now)) (plan-of (c .lay-out-within .result)) (c .lay-out-within .ensures .alike) (c .args .question .now) (c .args .out .now)
     (c .answer-opened .result) (c .answer-opened .last .out) (c .answer-opened .ensures)
