@@ -9,7 +9,8 @@ use Rattle.std.proofs.shelf.Tests.{or-cases}
 use Rattle.marks.specs.declared.mark.Mark.{Mark}
 use Rattle.marks.specs.Marks.{no-worse, covered, Among, among-first, among-later, Falling}
 use Rattle.marks.specs.Answers.{Answer-of}
-use Rattle.marks.proofs.Marks.{mark-ext, covered-up, no-worse-times, no-worse-boats, no-worse-trans, falling-head, falling-tail}
+use Rattle.marks.proofs.Marks.{mark-ext, covered-up, no-worse-times, no-worse-boats, no-worse-trans}
+use Rattle.marks.proofs.Marks.{falling-head, falling-tail}
 
 -- what covers a mark is one of the list
 pub covered-by : (m : Mark) (ms : List Mark) → covered m ms ≡ true → (n : Mark) × Among n ms × (no-worse n m ≡ true)

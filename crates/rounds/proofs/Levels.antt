@@ -174,14 +174,16 @@ module _ {p : Plan} {seed : List ℕ} where
       settled {j} {b} (stay {a = a} x y u) =
           let v = usable-place (aboard-in x) in
           let w = usable-place u in
-          let had = ls .least (v .place) k (v .within) (le-refl k) (subst (Aboard-from p seed k) (sym (v .is)) (settled x)) in
+          let before = subst (Aboard-from p seed k) (sym (v .is)) (settled x) in
+          let had = ls .least (v .place) k (v .within) (le-refl k) before in
           by-level (w .place) (w .within) (w .is)
           (cl .stayed (w .place) (v .place) (w .within) (v .within) (had .0) (stays-as (v .is) (w .is) y)
           (ap runs (w .is) ∙ u .going))
       settled {j} {b} (board {a = a} x y z u) =
           let w = usable-place u in
           by-level (w .place) (w .within) (w .is)
-          (can-board (w .place) a (w .within) (ap runs (w .is) ∙ u .going) (settled x) (subst (Boarded p a) (sym (w .is)) z))
+          (can-board (w .place) a (w .within) (ap runs (w .is) ∙ u .going) (settled x)
+          (subst (Boarded p a) (sym (w .is)) z))
 
       pub levels-settled : {most : ℕ} → k ≤ most → Levels (Aboard-from p seed) p most level
       levels-settled {most} h = record {
@@ -194,7 +196,8 @@ module _ {p : Plan} {seed : List ℕ} where
       }
 
 -- before the first round nobody is aboard
-pub levels-none : {p : Plan} {seed level : List ℕ} → ((i : ℕ) → getD level i 0 ≡ 0) → Levels (Aboard-from p seed) p 0 level
+pub levels-none : {p : Plan} {seed level : List ℕ} → ((i : ℕ) → getD level i 0 ≡ 0) →
+    Levels (Aboard-from p seed) p 0 level
 levels-none blank = record {
   sound = λ i h l. absurd (omega (arith, blank i));
   least = λ i j h l x. absurd (let y = seeds-some x in omega arith);

@@ -29,11 +29,13 @@ use Rattle.rounds.specs.Levels.{Aboard-from, Levels, Sown}
 use Rattle.rounds.specs.Times.{never, Earliest, Put, Lowered}
 use Rattle.rounds.specs.Boarding.{Opens, Waiting}
 use Rattle.rounds.specs.Answers.{There, without, with-leg}
-use Rattle.rounds.proofs.Levels.{Comes, from-base, from-leg, None, Ready, Readies, Closed, levels-none, levels-more, levels-settled, settled}
+use Rattle.rounds.proofs.Levels.{Comes, from-base, from-leg, Readies, Closed}
+use Rattle.rounds.proofs.Levels.{levels-none, levels-more, levels-settled, settled}
 use Rattle.rounds.proofs.Cells.{Lowers, Gone, gone-all, at-once-there, ends-gets, gets-ends}
 use Rattle.rounds.proofs.Scans.{Served, Scan, scan-none, scan-more, scan-late, scan-all, comes-none}
 use Rattle.rounds.proofs.Passes.{Fits, Lifted, lifted-none, lifted-more, lifted-closed, laid-fits}
-use Rattle.rounds.proofs.Thinning.{Walks-in, Scanned, Passed, next-of, passed-here, inside, unset, opened, passed-keep, passed-more}
+use Rattle.rounds.proofs.Thinning.{Walks-in, Scanned, Passed, next-of}
+use Rattle.rounds.proofs.Thinning.{passed-here, inside, unset, opened, passed-keep, passed-more}
 
 -- a mark is one with so many boats and a time there
 pub there-comes : {p : Plan} {seed : List ℕ} {to foot : ℕ} {m : Mark} → There p seed to foot m →
@@ -103,7 +105,8 @@ module _ {p : Plan} {seed : List ℕ} {foot to : ℕ} where
       first-come : (m : Mark) → There p seed to foot m → m .boats ≤ 0 → foot ≤ m .arrival
       first-come m r l =
           let none : m .boats ≡ 0 = omega arith in
-          e .least (m .arrival) (subst (λ k. Comes p seed (Walks-in foot) at-once-there to k (m .arrival)) none (there-comes r))
+          e .least (m .arrival)
+          (subst (λ k. Comes p seed (Walks-in foot) at-once-there to k (m .arrival)) none (there-comes r))
 
   pub rounded-none : {joins : List Bool} {first link level ready later arrived waits : List ℕ} {t left : ℕ}
       {ms : List Mark} (n : ℕ) → Laid p joins first link → ((i : ℕ) → getD level i 0 ≡ 0) → ready ≡ replicate n never →
@@ -131,7 +134,10 @@ module _ {p : Plan} {seed : List ℕ} {foot to : ℕ} where
           ∙ getD-replicate n d never 0 (omega (arith, ap length eq-ready, length-replicate {A = ℕ} n never))
 
       soonest-foot : Earliest (Comes p seed (Walks-in foot) at-once-there to 0) foot
-      soonest-foot = record { given = λ h. from-base (h, refl); least = λ y o. let z = comes-none o in omega (arith, z .1) }
+      soonest-foot = record {
+        given = λ h. from-base (h, refl);
+        least = λ y o. let z = comes-none o in omega (arith, z .1);
+      }
 
   pub scanned-none : {t k : ℕ} {level ready later arrived waits : List ℕ} {soon left : ℕ} {ms : List Mark} →
       Rounded p seed foot to t k level ready later arrived waits soon left ms →
@@ -161,7 +167,8 @@ module _ {p : Plan} {seed : List ℕ} {foot to : ℕ} where
     scanned-more {later₁} {later₂} {soon₁} {soon₂} low long walks put walks-to = record {
       cells = λ d l.
           let inside : d < length later = omega (arith, long, low .long) in
-          scan-more i v a is ab (g .cells d inside) h (gone-all (change-at p) (low .cells d inside) (walks d (omega (arith, long))));
+          scan-more i v a is ab (g .cells d inside) h
+          (gone-all (change-at p) (low .cells d inside) (walks d (omega (arith, long))));
       goal =
           let put₁ = subst (λ z. Put (a .to) z to soon soon₁) (sym (add-zero (a .comes))) put in
           scan-more i v a is ab (g .goal) h (gone-all at-once-there put₁ walks-to);
@@ -226,7 +233,8 @@ module _ {p : Plan} {seed : List ℕ} {foot to : ℕ} where
       pub turn-more : {later₁ later₂ : List ℕ} {soon₁ soon₂ : ℕ} {at-end : ℕ} →
           Lowered later (a .to) (a .comes + change-at p (a .to)) later₁ → Put (a .to) (a .comes) to soon soon₁ →
           at-end ≡ 0 → length later₂ ≡ length later₁ →
-          ((d : ℕ) → d < length later₁ → Gone (p .walks) (a .to) (a .comes) d (getD later₁ d 0) (getD later₂ d 0) at-end) →
+          ((d : ℕ) → d < length later₁ →
+          Gone (p .walks) (a .to) (a .comes) d (getD later₁ d 0) (getD later₂ d 0) at-end) →
           Gone (p .walks) (a .to) (a .comes) to soon₁ soon₂ at-end →
           Passed p seed foot to t k ready level waits₀ left (set level₁ i (k + 1)) later₂ (set arrived (a .to) (a .comes)) waits
           soon₂ true still (c + 1) (next-of waits₀ left (length (p .legs)) (c + 1))
@@ -236,8 +244,8 @@ module _ {p : Plan} {seed : List ℕ} {foot to : ℕ} where
           put (subst (Gone (p .walks) (a .to) (a .comes) to soon₁ soon₂) done walks-to))
 
   -- the end of a round
-  module _ {t k : ℕ} {level ready later arrived waits level₁ later₁ arrived₁ waits₁ : List ℕ} {soon left soon₁ still c n : ℕ}
-      {any : Bool} {ms : List Mark} {joins : List Bool} {first link : List ℕ} (laid : Laid p joins first link)
+  module _ {t k : ℕ} {level ready later arrived waits level₁ later₁ arrived₁ waits₁ : List ℕ}
+      {soon left soon₁ still c n : ℕ} {any : Bool} {ms : List Mark} {joins : List Bool} {first link : List ℕ} (laid : Laid p joins first link)
       (sown : Sown p t seed) (long : length ready ≡ piers p) (same-long : length later₁ ≡ length ready)
       (r : Rounded p seed foot to t k level ready later arrived waits soon left ms)
       (g : Passed p seed foot to t k ready level waits left level₁ later₁ arrived₁ waits₁ soon₁ any still c n)
@@ -258,7 +266,8 @@ module _ {p : Plan} {seed : List ℕ} {foot to : ℕ} where
     after : {ms₁ : List Mark} → Answer-of (There p seed to foot) (suc k) ms₁ →
         Rounded p seed foot to t (k + 1) level₁ later₁ later₁ arrived₁ waits₁ soon₁ still ms₁
     after {ms₁} a =
-        subst (λ m. Rounded p seed foot to t m level₁ later₁ later₁ arrived₁ waits₁ soon₁ still ms₁) (sym (add-one k)) (record {
+        subst (λ m. Rounded p seed foot to t m level₁ later₁ later₁ arrived₁ waits₁ soon₁ still ms₁) (sym (add-one k))
+        (record {
           levels = levels-after;
           readies = λ d h. scan-all all levels-after (g .scanned .cells d h);
           same = refl;
@@ -279,11 +288,12 @@ module _ {p : Plan} {seed : List ℕ} {foot to : ℕ} where
     pub rounded-more : {ms₁ : List Mark} → k < 8 → soon₁ < never → ms₁ ≡ with-mark ms (mark soon₁ (k + 1)) →
         Rounded p seed foot to t (k + 1) level₁ later₁ later₁ arrived₁ waits₁ soon₁ still ms₁
     rounded-more bound h e =
-        after (subst (Answer-of (There p seed to foot) (suc k)) (sym (e ∙ ap (λ j. with-mark ms (mark soon₁ j)) (add-one k)))
-        (answer-with (suc k) (mark soon₁ (suc k)) _ refl bound (r .answer) (comes-there (soonest-after .given h)) refl first-come refl))
+        let told = e ∙ ap (λ j. with-mark ms (mark soon₁ j)) (add-one k) in
+        after (answer-with (suc k) (mark soon₁ (suc k)) _ refl bound (r .answer) (comes-there (soonest-after .given h)) refl first-come told)
 
     -- nobody is there yet
-    pub rounded-same : never ≤ soon₁ → Rounded p seed foot to t (k + 1) level₁ later₁ later₁ arrived₁ waits₁ soon₁ still ms
+    pub rounded-same : never ≤ soon₁ →
+        Rounded p seed foot to t (k + 1) level₁ later₁ later₁ arrived₁ waits₁ soon₁ still ms
     rounded-same h = after (answer-same (r .answer) (λ m y e. absurd (omega (arith, in-time laid y, first-come m y e))))
 
     -- A round that boards nobody, where no seed is left for a later one, is the last: with any more boats one is aboard

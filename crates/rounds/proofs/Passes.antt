@@ -116,7 +116,8 @@ module _ {p : Plan} {seed : List ℕ} {k : ℕ} {ready level : List ℕ} where
         ⊎-elim
         (λ s.
         let n = now j s in (
-          subst (λ m. Aboard-from p seed m (leg p j)) (sym n) (subst (λ m. Aboard-from p seed (suc k) (leg p m)) (sym s) a),
+          subst (λ m. Aboard-from p seed m (leg p j)) (sym n)
+              (subst (λ m. Aboard-from p seed (suc k) (leg p m)) (sym s) a),
           omega arith,
         ))
         (λ ne.

@@ -33,6 +33,7 @@ use Rattle.marks.proofs.Marks.{no-worse-by}
 use Rattle.rounds.specs.Layout.{Laid}
 use Rattle.rounds.specs.Levels.{Seeded, Aboard-from, Levels, Sown}
 use Rattle.rounds.specs.Times.{never, Earliest, Put, Lowered, Outset}
+use Rattle.rounds.specs.Boarding.{ready-for}
 use Rattle.rounds.specs.Answers.{Answer, There, without, with-leg, Seeds, Asked}
 use Rattle.rounds.proofs.Cells.{Lowers, Gone, gone-all, at-once-there, ends-gets, gets-ends}
 use Rattle.rounds.proofs.Levels.{Gets}
@@ -40,8 +41,8 @@ use Rattle.rounds.proofs.Answers.{answer-tight}
 use Rattle.rounds.proofs.Nesting.{mark, ends-in-time}
 
 -- the pier where one sets out, and then each walk from there
-pub outset-all : {p : Plan} {s t : ℕ} {blank row : List ℕ} {at : ℕ} (row₁ : List ℕ) (n : ℕ) → piers p ≡ n → blank ≡ replicate n never →
-    Lowered blank s t row → at ≡ 0 →
+pub outset-all : {p : Plan} {s t : ℕ} {blank row : List ℕ} {at : ℕ} (row₁ : List ℕ) (n : ℕ) →
+    piers p ≡ n → blank ≡ replicate n never → Lowered blank s t row → at ≡ 0 →
     ((d : ℕ) → d < length row → Gone (p .walks) s t d (getD row d 0) (getD row₁ d 0) at) → Outset p s t row₁
 outset-all {p} {s} {t} {blank} {row} row₁ n wide is low done walks d h =
     record {
@@ -75,8 +76,8 @@ begins-ends p b s t e =
     (λ w. (t + walk p (w .place) .takes, on-foot (w .place) (w .within) (w .from) (w .to), w .in-time))
     (begins-cases p s t b e)
 
-pub outset-begins : {p : Plan} (s t : ℕ) (row : List ℕ) (b : Leg) → Outset p s t row → b .from < piers p → b .leaves < never →
-    leb (getD row (b .from) 0) (b .leaves) ≡ begins p s t b
+pub outset-begins : {p : Plan} (s t : ℕ) (row : List ℕ) (b : Leg) → Outset p s t row →
+    b .from < piers p → b .leaves < never → ready-for row b ≡ begins p s t b
 outset-begins {p} s t row b out h early =
     same-from-decides _ _ (leb-true _ _, le-leb _ _) (
       λ e.
@@ -106,7 +107,9 @@ module _ (p : Plan) (q : Question) (seed : List ℕ) (sow : Seeds p q seed) wher
   seeds-aboard x = aboard-map
       (λ k b y. record {
         enough = omega (arith, y .some, y .enough);
-        begun = subst (λ (z : Leg). begins p (q .from) (q .time) z ≡ true) (y .is) (seeded-begins (y .place) (y .within) (y .some));
+        begun =
+            subst (λ (z : Leg). begins p (q .from) (q .time) z ≡ true) (y .is)
+            (seeded-begins (y .place) (y .within) (y .some));
       })
       (λ a b e. e) (λ a b e. e) (λ b u. u) x
 
@@ -119,7 +122,13 @@ module _ (p : Plan) (q : Question) (seed : List ℕ) (sow : Seeds p q seed) wher
           let w = usable-place u in
           let begun = subst (λ (z : Leg). begins p (q .from) (q .time) z ≡ true) (sym (w .is)) (y .begun) in
           let one : getD seed (w .place) 0 ≡ 1 = sow (w .place) (w .within) ∙ cond-true {A = ℕ} _ 1 0 begun in
-          record { place = w .place; within = w .within; is = w .is; some = omega arith; enough = omega (arith, y .enough) }
+          record {
+            place = w .place;
+            within = w .within;
+            is = w .is;
+            some = omega arith;
+            enough = omega (arith, y .enough);
+          }
 
   pub seeds-levels : {k : ℕ} {level : List ℕ} → Levels (Aboard-from p seed) p k level →
       Levels (Aboard p (q .from) (q .time)) p k level
@@ -132,14 +141,16 @@ module _ (p : Plan) (q : Question) (seed : List ℕ) (sow : Seeds p q seed) wher
   -- with no more boats. Without a boat only the earliest time counts, and that is before `never`.
   module _ {joins : List Bool} {first link : List ℕ} (laid : Laid p joins first link) (asked : Asked p q) {foot : ℕ}
       (earliest : Earliest (Ends p (q .to) (q .from) (q .time)) foot) where
-    told : (m : Mark) → There p seed (q .to) foot m → (n : Mark) × Reached p q (n .arrival) (n .boats) × (no-worse n m ≡ true)
+    told : (m : Mark) → There p seed (q .to) foot m →
+        (n : Mark) × Reached p q (n .arrival) (n .boats) × (no-worse n m ≡ true)
     told m (without h e) =
         (mark foot 0, without-boat (earliest .given h), no-worse-by (mark foot 0) m (omega arith) (omega arith))
     told m (with-leg a y e) =
         let z = aboard-reached {q = q} (seeds-aboard y) e in
         (mark (z .arrival) (z .taken), z .found, no-worse-by (mark (z .arrival) (z .taken)) m (z .no-later) (z .no-more))
 
-    found : (m : Mark) → Reached p q (m .arrival) (m .boats) → (n : Mark) × There p seed (q .to) foot n × (no-worse n m ≡ true)
+    found : (m : Mark) → Reached p q (m .arrival) (m .boats) →
+        (n : Mark) × There p seed (q .to) foot n × (no-worse n m ≡ true)
     found m r =
         ⊎-elim
         (λ w.

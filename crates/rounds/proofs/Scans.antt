@@ -25,7 +25,8 @@ pub record Served (p : Plan) (c : ℕ → ℕ) (d : ℕ) (arrived : List ℕ) (x
 
 -- In round k + 1, when the legs below i were gone through: the earliest time at the pier d with k boats, and from those
 -- of them that were boarded in this round.
-pub record Scan (p : Plan) (seed : List ℕ) (Base : ℕ → Type 0) (c : ℕ → ℕ) (d k : ℕ) (level arrived : List ℕ) (x i : ℕ) : Type 0 where
+pub record Scan (p : Plan) (seed : List ℕ) (Base : ℕ → Type 0) (c : ℕ → ℕ) (d k : ℕ) (level arrived : List ℕ)
+    (x i : ℕ) : Type 0 where
   pub given : x < never → Comes p seed Base c d (suc k) x
   pub old : (y : ℕ) → Comes p seed Base c d k y → x ≤ y
   pub new : (j : ℕ) → j < i → getD level j 0 ≡ suc k → (y : ℕ) → Gets p c d (leg p j .to) (leg p j .comes) y → x ≤ y
@@ -113,7 +114,8 @@ module _ {p : Plan} {seed : List ℕ} {Base : ℕ → Type 0} {c : ℕ → ℕ} 
       at-leg a y b o =
           let w = usable-place (aboard-in b) in
           let here = subst (λ (z : Leg). Gets p c d (z .to) (z .comes) y) (sym (w .is)) o in
-          let l = ls .least (w .place) (suc k) (w .within) (le-refl _) (subst (Aboard-from p seed (suc k)) (sym (w .is)) b) in
+          let there = subst (Aboard-from p seed (suc k)) (sym (w .is)) b in
+          let l = ls .least (w .place) (suc k) (w .within) (le-refl _) there in
           ⊎-elim
           (λ e. g .new (w .place) (omega (arith, w .within)) e y here)
           (λ n.
@@ -126,6 +128,7 @@ module _ {p : Plan} {seed : List ℕ} {Base : ℕ → Type 0} {c : ℕ → ℕ} 
       late y (from-leg a b o) = at-leg a y b o
 
 -- before the first round nobody has come by boat
-pub comes-none : {p : Plan} {seed : List ℕ} {Base : ℕ → Type 0} {c : ℕ → ℕ} {d x : ℕ} → Comes p seed Base c d 0 x → Base x
+pub comes-none : {p : Plan} {seed : List ℕ} {Base : ℕ → Type 0} {c : ℕ → ℕ} {d x : ℕ} →
+    Comes p seed Base c d 0 x → Base x
 comes-none (from-base b) = b
 comes-none (from-leg a b o) = absurd (let l = seeds-some b in omega arith)

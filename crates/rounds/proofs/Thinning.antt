@@ -47,7 +47,10 @@ module _ {p : Plan} {t : ℕ} where
       runs (leg p i) ≡ true → Waiting p t level waits left i → Waiting p t level (set waits left i) (left + 1) (i + 1)
   waiting-more {level} {waits} {left} i room z r g = record {
     below = λ m h.
-        ⊎-elim (λ lt. omega (arith, other m lt, g .below m lt)) (λ ge. omega (arith, now m (last m h ge))) (cases-lt m left);
+        ⊎-elim
+        (λ lt. omega (arith, other m lt, g .below m lt))
+        (λ ge. omega (arith, now m (last m h ge)))
+        (cases-lt m left);
     rises = λ m l h k.
         let lm : m < left = omega arith in
         ⊎-elim
@@ -75,11 +78,32 @@ module _ {p : Plan} {t : ℕ} where
       each : (P : ℕ → Type 0) → ((m : ℕ) → m < left → P (getD waits m 0)) → P i → (m : ℕ) → m < left + 1 →
           P (getD (set waits left i) m 0)
       each P old new m h =
-          ⊎-elim (λ lt. subst P (sym (other m lt)) (old m lt)) (λ ge. subst P (sym (now m (last m h ge))) new) (cases-lt m left)
+          ⊎-elim
+          (λ lt. subst P (sym (other m lt)) (old m lt))
+          (λ ge. subst P (sym (now m (last m h ge))) new)
+          (cases-lt m left)
+
+  -- what stands behind them is of no account
+  pub waiting-behind : {level waits : List ℕ} {left n : ℕ} (x : ℕ) → Waiting p t level waits left n →
+      Waiting p t level (set waits left x) left n
+  waiting-behind {level} {waits} {left} {n} x g = record {
+    below = λ m h. each (λ y. y < n) m h (g .below m h);
+    rises = λ m l h k. omega (arith, same m (omega arith), same l k, g .rises m l h k);
+    blank = λ m h. each (λ y. getD level y 0 ≡ 0) m h (g .blank m h);
+    going = λ m h. each (λ y. runs (leg p y) ≡ true) m h (g .going m h);
+    all = λ j h z r l. let (m, k, is) = g .all j h z r l in (m, k, same m k ∙ is);
+  }
+    where
+      same : (m : ℕ) → m < left → getD (set waits left x) m 0 ≡ getD waits m 0
+      same m h = getD-set-other waits left m x 0 (λ e. omega arith)
+
+      each : (P : ℕ → Type 0) (m : ℕ) → m < left → P (getD waits m 0) → P (getD (set waits left x) m 0)
+      each P m h y = subst P (sym (same m h)) y
 
   -- other levels, the same below n
   pub waiting-level : {level level₁ waits : List ℕ} {left n : ℕ} →
-      ((j : ℕ) → j < n → getD level₁ j 0 ≡ getD level j 0) → Waiting p t level waits left n → Waiting p t level₁ waits left n
+      ((j : ℕ) → j < n → getD level₁ j 0 ≡ getD level j 0) → Waiting p t level waits left n →
+      Waiting p t level₁ waits left n
   waiting-level f g = record {
     below = g .below;
     rises = g .rises;
@@ -193,8 +217,8 @@ not-new ls g j ge h e = let r = g .rest j ge in let z = ls .sound j h (omega ari
 -- A pass. Between two legs of the row no leg can be boarded: it has a level, does not run, or leaves too early for
 -- anybody to be aboard.
 module _ {p : Plan} {seed : List ℕ} {foot to t k : ℕ} {ready level waits₀ : List ℕ} {left : ℕ}
-    (w : Waiting p t level waits₀ left (length (p .legs))) (sown : Sown p t seed) (ls : Levels (Aboard-from p seed) p k level)
-    (rs : Readies p seed k ready) (fits : Fits p ready) where
+    (w : Waiting p t level waits₀ left (length (p .legs))) (sown : Sown p t seed)
+    (ls : Levels (Aboard-from p seed) p k level) (rs : Readies p seed k ready) (fits : Fits p ready) where
   module _ {level₁ later arrived waits : List ℕ} {soon : ℕ} {any : Bool} {still c : ℕ} where
     leap : (m m₁ c₁ : ℕ) → m ≤ m₁ → m₁ ≤ length (p .legs) → c ≤ c₁ →
         ((j : ℕ) → m ≤ j → j < m₁ → getD level j 0 ≡ 0 → runs (leg p j) ≡ true → t ≤ leg p j .leaves → ⊥) →
@@ -208,7 +232,8 @@ module _ {p : Plan} {seed : List ℕ} {foot to t k : ℕ} {ready level waits₀ 
       same = λ j h. g .same j (omega arith);
     }
       where
-        idle : (j : ℕ) → m ≤ j → j < m₁ → runs (leg p j) ≡ true → Opens p seed (suc k) ready level₁ j → 0 < getD level₁ j 0
+        idle : (j : ℕ) → m ≤ j → j < m₁ → runs (leg p j) ≡ true → Opens p seed (suc k) ready level₁ j →
+            0 < getD level₁ j 0
         idle j ge h r o =
             ⊎-elim
             (λ lt. lt)

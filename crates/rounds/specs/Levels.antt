@@ -30,4 +30,5 @@ pub record Levels (A : ℕ → Leg → Type 0) (p : Plan) (k : ℕ) (level : Lis
 -- places is seeded alike
 pub record Sown (p : Plan) (t : ℕ) (seed : List ℕ) : Type 0 where
   pub late : (i : ℕ) → i < length (p .legs) → 1 ≤ getD seed i 0 → t ≤ leg p i .leaves
-  pub alike : (i j : ℕ) → i < length (p .legs) → j < length (p .legs) → leg p i ≡ leg p j → getD seed i 0 ≡ getD seed j 0
+  pub alike : (i j : ℕ) → i < length (p .legs) → j < length (p .legs) → leg p i ≡ leg p j →
+      getD seed i 0 ≡ getD seed j 0

@@ -2,7 +2,6 @@
 ghost use mathlib.Core.Bool.{cond};
 ghost use mathlib.Core.Path.{_≡_};
 ghost use Prim.Native.Nat.{ℕ, _+_, _≤_, _<_};
-ghost use lib.Dec.{leb};
 ghost use lib.ListN.{length, getD};
 ghost use Rattle.plan.specs.Legs.{leg, time-bound};
 ghost use Rattle.journey.specs.Aboard.{Aboard};
@@ -10,6 +9,7 @@ ghost use Rattle.marks.specs.Fronts.{marks-of};
 ghost use Rattle.rounds.specs.Rows.{plan-of, Lies};
 ghost use Rattle.rounds.specs.Levels.{Levels};
 ghost use Rattle.rounds.specs.Times.{Outset};
+ghost use Rattle.rounds.specs.Boarding.{ready-for};
 ghost use Rattle.rounds.specs.Answers.{Answer, Asked, Seeds};
 use crate::layout::Layout;
 use crate::rounds::go_rounds;
@@ -43,8 +43,7 @@ fn sow(layout: Layout, ready: &[u64], seed: &mut [u8])
     requires piers { ⌜ length (now ready) ≡ length (now (layout .change)) ⌝ }
     requires seeds { ⌜ length (now seed) ≡ length (now (layout .legs)) ⌝ }
     ensures { λ _. ⌜ ((i : ℕ) → i < length (now (layout .entry .legs)) →
-        getD (now (seed .exit)) i 0
-        ≡ cond (leb (getD (now (ready .entry)) (leg (plan-of (layout .entry)) i .from) 0) (leg (plan-of (layout .entry)) i .leaves)) 1 0) ⌝ }
+        getD (now (seed .exit)) i 0 ≡ cond (ready-for (now (ready .entry)) (leg (plan-of (layout .entry)) i)) 1 0) ⌝ }
 {
     for i in 0..layout.legs.len() {
         let a = leg_at(layout.legs, i);
@@ -56,8 +55,8 @@ fn sow(layout: Layout, ready: &[u64], seed: &mut [u8])
     }
 }
 
-// Seeds the legs that a journey can begin with, and leaves in `ready` when one is at each pier without a boat. Whether a
-// leg runs is not asked: the rounds take none that does not.
+// Seeds the legs that a journey can begin with, and leaves in `ready` when one is at each pier without a boat. Whether
+// a leg runs is not asked: the rounds take none that does not.
 pub fn seed_question(layout: Layout, q: Question, ready: &mut [u64], seed: &mut [u8])
     requires laid { ⌜ Lies layout ⌝ }
     requires asked { ⌜ Asked (plan-of layout) q ⌝ }
@@ -70,8 +69,8 @@ pub fn seed_question(layout: Layout, q: Question, ready: &mut [u64], seed: &mut 
     sow(layout, ready, seed);
 }
 
-// The answer to the question, and in `level` for each leg the least boats of a journey that ends with it. The other rows
-// are scratch.
+// The answer to the question, and in `level` for each leg the least boats of a journey that ends with it. The other
+// rows are scratch.
 pub fn answer_laid(
     layout: Layout,
     q: Question,
@@ -94,7 +93,8 @@ pub fn answer_laid(
     requires later { ⌜ length (now later) ≡ length (now (layout .change)) ⌝ }
     requires arrived { ⌜ length (now arrived) ≡ length (now (layout .change)) ⌝ }
     ensures answer { λ r. ⌜ Answer (plan-of (layout .entry)) most q (marks-of r) ⌝ }
-    ensures levels { λ r. ⌜ Levels (Aboard (plan-of (layout .entry)) (q .from) (q .time)) (plan-of (layout .entry)) most (now (level .exit)) ⌝ }
+    ensures levels { λ r. ⌜ Levels (Aboard (plan-of (layout .entry)) (q .from) (q .time)) (plan-of (layout .entry)) most
+        (now (level .exit)) ⌝ }
 {
     seed_question(layout, q, ready, seed);
     let on_foot = ready[q.to as usize];

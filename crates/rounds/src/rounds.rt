@@ -28,13 +28,15 @@ fn find_candidates(layout: Layout, time: u64, waits: &mut [u16]) -> usize
     requires few { ⌜ length (now (layout .legs)) ≤ 65536 ⌝ }
     requires room { ⌜ length (now waits) ≡ length (now (layout .legs)) ⌝ }
     ensures few { λ r. ⌜ r ≤ length (now (layout .entry .legs)) ⌝ }
-    ensures waiting { λ r. ⌜ Waiting (plan-of (layout .entry)) time [] (now (waits .exit)) r (length (now (layout .entry .legs))) ⌝ }
+    ensures waiting { λ r. ⌜ Waiting (plan-of (layout .entry)) time [] (now (waits .exit)) r
+        (length (now (layout .entry .legs))) ⌝ }
 {
     let mut left = 0;
     for i in 0..layout.legs.len() {
         let a = leg_at(layout.legs, i);
+        // Written in any case, and kept if it counts: so there is no branch to guess wrong.
+        waits[left] = i as u16;
         if a.leaves >= time && a.runs() {
-            waits[left] = i as u16;
             left += 1;
         }
     }
@@ -79,8 +81,10 @@ pub fn go_rounds(
     requires ready { ⌜ length (now ready) ≡ length (now (layout .change)) ⌝ }
     requires later { ⌜ length (now later) ≡ length (now (layout .change)) ⌝ }
     requires arrived { ⌜ length (now arrived) ≡ length (now (layout .change)) ⌝ }
-    ensures levels { λ r. ⌜ Levels (Aboard-from (plan-of (layout .entry)) (now (seed .entry))) (plan-of (layout .entry)) most (now (level .exit)) ⌝ }
-    ensures marks { λ r. ⌜ Answer-of (There (plan-of (layout .entry)) (now (seed .entry)) to «on_foot») most (marks-of r) ⌝ }
+    ensures levels { λ r. ⌜ Levels (Aboard-from (plan-of (layout .entry)) (now (seed .entry))) (plan-of (layout .entry)) most
+        (now (level .exit)) ⌝ }
+    ensures marks { λ r. ⌜ Answer-of (There (plan-of (layout .entry)) (now (seed .entry)) to «on_foot») most
+        (marks-of r) ⌝ }
 {
     level.fill(0);
     ready.fill(NEVER);

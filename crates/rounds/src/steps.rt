@@ -43,7 +43,8 @@ pub fn opens(layout: Layout, seed: &[u8], ready: &[u64], level: &[u8], boats: u8
     requires seeds { ⌜ length (now seed) ≡ length (now (layout .legs)) ⌝ }
     requires levels { ⌜ length (now level) ≡ length (now (layout .legs)) ⌝ }
     requires piers { ⌜ length (now ready) ≡ length (now (layout .change)) ⌝ }
-    ensures { λ r. ⌜ Decides r (Opens (plan-of (layout .entry)) (now (seed .entry)) boats (now (ready .entry)) (now (level .entry)) i) ⌝ }
+    ensures { λ r. ⌜ Decides r (Opens (plan-of (layout .entry)) (now (seed .entry)) boats (now (ready .entry))
+        (now (level .entry)) i) ⌝ }
 {
     if layout.joins[i] && level[i - 1] != 0 {
         return true;

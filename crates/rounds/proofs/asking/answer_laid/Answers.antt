@@ -7,7 +7,9 @@ pub go-rounds-requires : need.go-rounds-requires
 go-rounds-requires c κs = record {
   laid = c .pre .laid;
   legs = c .pre .legs;
-  sown = seeds-sown (plan-of (c .args .layout)) (c .args .q) (c .seed-question .last .seed) (c .seed-question .ensures .seeds);
+  sown =
+      seeds-sown (plan-of (c .args .layout)) (c .args .q) (c .seed-question .last .seed)
+      (c .seed-question .ensures .seeds);
   few = c .pre .few;
   seeds = omega arith;
   levels = c .pre .levels;

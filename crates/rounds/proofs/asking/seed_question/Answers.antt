@@ -16,7 +16,8 @@ returns c =
           let fits = c .pre .laid .legs i h in
           c .sow .ensures i h
           ∙ ap (λ b. cond {A = ℕ} b 1 0)
-          (outset-begins {p = p} (q .from) (q .time) (c .set-out .last .ready) (leg p i) (c .set-out .ensures) (fits .from)
+          (outset-begins {p = p} (q .from) (q .time) (c .set-out .last .ready) (leg p i) (c .set-out .ensures)
+          (fits .from)
           (omega (arith, fits .leaves)));
       outset = c .set-out .ensures;
     }

@@ -11,7 +11,7 @@ Inv-walks l =
     WalkAt (plan-of (l .layout) .walks) (l .q .from) (l .at)
     × (length (l .ready) ≡ length (l .entry .ready))
     × ((d : ℕ) → d < length (l .entry .ready) →
-    Gone (plan-of (l .layout) .walks) (l .q .from) (l .q .time) d (getD (l .entry .ready) d 0) (getD (l .ready) d 0) (l .at))
+    Gone (l .layout .walks .now) (l .q .from) (l .q .time) d (getD (l .entry .ready) d 0) (getD (l .ready) d 0) (l .at))
 
 abbrev pub μ-walks : given.MeasureT-walks
 μ-walks l = l .at

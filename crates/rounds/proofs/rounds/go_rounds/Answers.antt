@@ -39,13 +39,14 @@ legs-holds c =
 pub legs-again-then-not-opens : need.legs-again-then-not-opens
 legs-again-then-not-opens c =
     let r = c .rounds .inv in
-    turn-keep (c .pre .laid) (c .pre .sown) (omega arith) r (c .legs-test .taken) (c .candidate-i .ensures .is) (c .legs .inv)
+    turn-keep (c .pre .laid) (c .pre .sown) (omega arith) r (c .legs-test .taken) (c .candidate-i .ensures .is)
+    (c .legs .inv)
     (λ o. both-ways false refl (c .if-not-opens .ensures tt .1 o)) (omega (arith, r .few))
 
 pub legs-again-then-a-arrived : need.legs-again-then-a-arrived
 legs-again-then-a-arrived c =
-    turn-late (c .pre .laid) (c .pre .sown) (omega arith) (c .rounds .inv) (c .legs-test .taken) (c .candidate-i .ensures .is)
-    (c .legs .inv) (c .if-not-opens .ensures tt .0 refl) (omega (arith, c .candidate-i .ensures .below))
+    turn-late (c .pre .laid) (c .pre .sown) (omega arith) (c .rounds .inv) (c .legs-test .taken)
+    (c .candidate-i .ensures .is) (c .legs .inv) (c .if-not-opens .ensures tt .0 refl) (omega (arith, c .candidate-i .ensures .below))
     (c .leg-at-a .result) (c .leg-at-a .ensures) (omega arith) (c .if-a-arrived .taken)
 
 pub walks-again : need.walks-again
@@ -66,8 +67,8 @@ walks-again c =
 pub legs-again : need.legs-again
 legs-again c =
     let (ok, long, cells, goal) = c .walks .inv in
-    turn-more (c .pre .laid) (c .pre .sown) (omega arith) (c .rounds .inv) (c .legs-test .taken) (c .candidate-i .ensures .is)
-    (c .legs .inv) (c .if-not-opens .ensures tt .0 refl) (omega (arith, c .candidate-i .ensures .below))
+    turn-more (c .pre .laid) (c .pre .sown) (omega arith) (c .rounds .inv) (c .legs-test .taken)
+    (c .candidate-i .ensures .is) (c .legs .inv) (c .if-not-opens .ensures tt .0 refl) (omega (arith, c .candidate-i .ensures .below))
     (c .leg-at-a .result) (c .leg-at-a .ensures) (omega arith)
     (c .lower .ensures) (c .nearer-soon .ensures) (omega arith) long cells goal
 
@@ -93,10 +94,12 @@ pub returns-after-rounds : need.returns-after-rounds
 returns-after-rounds c =
     let r = c .rounds .inv in
     let p = plan-of (c .args .layout) in
+    let seed = c .args .seed .now in
     let done : c .rounds .k ≡ c .args .most = omega arith in
     record {
-      levels = subst (λ k. Levels (Aboard-from p (c .args .seed .now)) p k (c .rounds .level)) done (r .levels);
-      marks = subst (λ k. Answer-of (There p (c .args .seed .now) (c .args .to) (c .args .on-foot)) k (marks-of (c .rounds .front)))
+      levels = subst (λ k. Levels (Aboard-from p seed) p k (c .rounds .level)) done (r .levels);
+      marks =
+          subst (λ k. Answer-of (There p seed (c .args .to) (c .args .on-foot)) k (marks-of (c .rounds .front)))
           done (r .answer);
     }
 
@@ -108,7 +111,11 @@ returns-then-k-last c =
     λ i h. omega (arith, c .last-seed-last .ensures i (omega arith), c .if-k-last .taken) in
     let end = next-end (c .rounds .waits) (c .rounds .left) n (c .legs .c) (omega arith) in
     let few : c .legs .still ≤ c .rounds .left = omega (arith, c .legs .inv .few) in
+    let long : length (c .rounds .ready) ≡ length (c .args .layout .change .now) = omega arith in
+    let same : length (c .legs .later) ≡ length (c .rounds .ready) = omega arith in
+    let left : c .rounds .k ≤ c .args .most = omega arith in
+    let none = c .if-not-any .taken in
     record {
-      levels = levels-last (c .pre .laid) (c .pre .sown) (omega arith) (omega arith) r (c .legs .inv) end few (c .if-not-any .taken) low (omega arith);
-      marks = answer-last (c .pre .laid) (c .pre .sown) (omega arith) (omega arith) r (c .legs .inv) end few (c .if-not-any .taken) low (omega arith);
+      levels = levels-last (c .pre .laid) (c .pre .sown) long same r (c .legs .inv) end few none low left;
+      marks = answer-last (c .pre .laid) (c .pre .sown) long same r (c .legs .inv) end few none low left;
     }

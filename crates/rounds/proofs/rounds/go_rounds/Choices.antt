@@ -25,7 +25,7 @@ Inv-walks l =
     WalkAt (plan-of (l .layout) .walks) (l .a .to) (l .at)
     × (length (l .later) ≡ length (l .entry .later))
     × ((d : ℕ) → d < length (l .entry .later) →
-    Gone (plan-of (l .layout) .walks) (l .a .to) (l .a .comes) d (getD (l .entry .later) d 0) (getD (l .later) d 0) (l .at))
+    Gone (l .layout .walks .now) (l .a .to) (l .a .comes) d (getD (l .entry .later) d 0) (getD (l .later) d 0) (l .at))
     × Gone (plan-of (l .layout) .walks) (l .a .to) (l .a .comes) (l .to) (l .entry .soon) (l .soon) (l .at)
 
 abbrev pub μ-walks : given.MeasureT-walks

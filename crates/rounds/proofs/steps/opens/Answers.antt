@@ -7,8 +7,10 @@ use Rattle.std.proofs.shelf.Tests.{both-ways}
 use Rattle.rounds.specs.Rows.{plan-of}
 use Rattle.rounds.proofs.Passes.{opens-joined, opens-else}
 use Rattle.rounds.proofs.steps.opens.Needs as need
-use Rattle.rounds.proofs.steps.opens.Needs.{else-layout-i·by·then-layout-i·else-level-i-ne0, else-layout-i·by·else-layout-i}
-use Rattle.rounds.proofs.steps.opens.Needs.{else-seed-i-ne0·by·then-seed-i-ne0·else-seed-i, else-seed-i-ne0·by·else-seed-i-ne0}
+use Rattle.rounds.proofs.steps.opens.Needs.{else-layout-i·by·then-layout-i·else-level-i-ne0}
+use Rattle.rounds.proofs.steps.opens.Needs.{else-layout-i·by·else-layout-i}
+use Rattle.rounds.proofs.steps.opens.Needs.{else-seed-i-ne0·by·then-seed-i-ne0·else-seed-i}
+use Rattle.rounds.proofs.steps.opens.Needs.{else-seed-i-ne0·by·else-seed-i-ne0}
 
 pub sub-i : need.sub-i
 sub-i c =
