@@ -77,7 +77,7 @@ pub fn answer_opened(layout: Layout, question: &[u64], out: &mut [u64]) -> Reply
 }
 
 // The answer to a question about a checked plan: lays it out in rows on the stack, and asks.
-pub fn answer_checked(table: Timetable, keys: &[u64], question: &[u64], out: &mut [u64]) -> Reply
+fn answer_checked(table: Timetable, keys: &[u64], question: &[u64], out: &mut [u64]) -> Reply
     requires ordered { ⌜ Ordered (plan-in (now (table .words))) (now keys) ⌝ }
     requires few { ⌜ Few (plan-in (now (table .words))) ⌝ }
     ensures { λ r. ⌜ Answered-by (query-checked (piers (plan-in (now (table .entry .words)))) (now (question .entry)))

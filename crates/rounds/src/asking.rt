@@ -21,7 +21,7 @@ use journey::question::Question;
 use marks::front::Front;
 
 // For each pier the earliest time at which one is there without a boat.
-pub fn set_out(layout: Layout, q: Question, ready: &mut [u64])
+fn set_out(layout: Layout, q: Question, ready: &mut [u64])
     requires laid { ⌜ Lies layout ⌝ }
     requires asked { ⌜ Asked (plan-of layout) q ⌝ }
     requires piers { ⌜ length (now ready) ≡ length (now (layout .change)) ⌝ }
@@ -57,7 +57,7 @@ fn sow(layout: Layout, ready: &[u64], seed: &mut [u8])
 
 // Seeds the legs that a journey can begin with, and leaves in `ready` when one is at each pier without a boat. Whether
 // a leg runs is not asked: the rounds take none that does not.
-pub fn seed_question(layout: Layout, q: Question, ready: &mut [u64], seed: &mut [u8])
+fn seed_question(layout: Layout, q: Question, ready: &mut [u64], seed: &mut [u8])
     requires laid { ⌜ Lies layout ⌝ }
     requires asked { ⌜ Asked (plan-of layout) q ⌝ }
     requires piers { ⌜ length (now ready) ≡ length (now (layout .change)) ⌝ }

@@ -18,16 +18,16 @@ use plan::leg::Leg;
 use plan::walk::Walk;
 
 // Later than any time of a plan, and than any sum of two.
-pub const NEVER: u64 = 1099511627776;
+pub(crate) const NEVER: u64 = 1099511627776;
 
-pub fn leg_at(legs: &[Leg], i: usize) -> Leg
+pub(crate) fn leg_at(legs: &[Leg], i: usize) -> Leg
     requires { ⌜ i < length (now legs) ⌝ }
     ensures { λ r. ⌜ r ≡ getD (now (legs .entry)) i no-leg ⌝ }
 {
     legs[i]
 }
 
-pub fn walk_at(walks: &[Walk], j: usize) -> Walk
+pub(crate) fn walk_at(walks: &[Walk], j: usize) -> Walk
     requires { ⌜ j < length (now walks) ⌝ }
     ensures { λ r. ⌜ r ≡ getD (now (walks .entry)) j no-walk ⌝ }
 {
@@ -36,7 +36,14 @@ pub fn walk_at(walks: &[Walk], j: usize) -> Walk
 
 // Whether the leg at `i` can be boarded with so many boats: from outside, by staying aboard from the leg before it, or
 // by whoever is ready at its pier.
-pub fn opens(layout: Layout, seed: &[u8], ready: &[u64], level: &[u8], boats: u8, i: usize) -> bool
+pub(crate) fn opens(
+    layout: Layout,
+    seed: &[u8],
+    ready: &[u64],
+    level: &[u8],
+    boats: u8,
+    i: usize,
+) -> bool
     requires laid { ⌜ Lies layout ⌝ }
     requires within { ⌜ i < length (now (layout .legs)) ⌝ }
     requires going { ⌜ runs (getD (now (layout .legs)) i no-leg) ≡ true ⌝ }
@@ -57,7 +64,7 @@ pub fn opens(layout: Layout, seed: &[u8], ready: &[u64], level: &[u8], boats: u8
 }
 
 // A time comes up at a pier: the row keeps the earliest for each.
-pub fn lower(row: &mut [u64], pier: usize, time: u64)
+pub(crate) fn lower(row: &mut [u64], pier: usize, time: u64)
     requires { ⌜ pier < length (now row) ⌝ }
     ensures { λ _. ⌜ Lowered (now (row .entry)) pier time (now (row .exit)) ⌝ }
 {
@@ -67,7 +74,7 @@ pub fn lower(row: &mut [u64], pier: usize, time: u64)
 }
 
 // The same for one pier, `to`, alone.
-pub fn nearer(soon: u64, to: u64, pier: u64, time: u64) -> u64
+pub(crate) fn nearer(soon: u64, to: u64, pier: u64, time: u64) -> u64
     ensures { λ r. ⌜ Put pier time to soon r ⌝ }
 {
     if pier == to && time < soon {
@@ -78,7 +85,7 @@ pub fn nearer(soon: u64, to: u64, pier: u64, time: u64) -> u64
 }
 
 // The marks before the first round: one is there without a boat, or not.
-pub fn set_off(on_foot: u64) -> Front
+pub(crate) fn set_off(on_foot: u64) -> Front
     ensures { λ r. ⌜ marks-of r ≡ cond (ltb «on_foot» never) (record { arrival = «on_foot»; boats = 0 } ∷ []) [] ⌝ }
 {
     if on_foot < NEVER {
@@ -92,7 +99,7 @@ pub fn set_off(on_foot: u64) -> Front
 }
 
 // No seed is greater.
-pub fn last_seed(seed: &[u8]) -> u8
+pub(crate) fn last_seed(seed: &[u8]) -> u8
     ensures { λ r. ⌜ ((i : ℕ) → i < length (now (seed .entry)) → getD (now (seed .entry)) i 0 ≤ r) ⌝ }
 {
     let mut last = 0;
