@@ -1,8 +1,8 @@
 -- A journey by the names of its legs, leg by leg.
 use mathlib.Core.Path.{_≡_, refl, sym, ap, subst, _∙_}
-use mathlib.Core.Bool.{Bool, true, false, _&&_, cond}
+use mathlib.Core.Bool.{Bool, true, false, cond}
 use mathlib.Core.List.{List, [], _∷_, _++_, map}
-use mathlib.Core.Logic.{_⊎_, inl, inr}
+use mathlib.Core.Logic.{inl, inr}
 use Prim.Native.Nat.{ℕ, suc, _+_, _≤_, _<_}
 use native.Mathlib.Omega.{arith}
 use native.Mathlib.Numerals.{add-one}
@@ -16,9 +16,9 @@ use Rattle.plan.specs.declared.leg.Leg.{Leg}
 use Rattle.plan.specs.Legs.{Plan, runs}
 use Rattle.journey.specs.declared.name.LegName.{LegName}
 use Rattle.journey.specs.Steps.{stays, follows, begins}
-use Rattle.journey.specs.Journeys.{in-plan, Named-once, joined, Journey, boats, last}
+use Rattle.journey.specs.Journeys.{in-plan, Named-once, joined, boats, last}
 use Rattle.journey.specs.Checked.{name, find-leg, only, going-leg, first-leg, next-leg, boats-after, told, Goes, Earliest-end, Reaching, on-no-boat, by-boat, at-no-end, on-no-foot, Verdict}
-use Rattle.journey.proofs.Naming.{Found, find-found, find-only, same-named}
+use Rattle.journey.proofs.Naming.{find-found, find-only, same-named}
 use Rattle.journey.proofs.Chains.{joined-none, joined-says, joined-snoc, joined-++-parts, journey-on, last-none, last-snoc, boats-none, boats-snoc-stay, boats-snoc-board}
 
 -- what a test lets through

@@ -1,7 +1,6 @@
 -- The marks that a front holds, and what it holds with one more.
 use mathlib.Core.Bool.{Bool, _&&_, cond}
 use mathlib.Core.List.{List, [], _∷_, _++_}
-use Prim.Native.Nat.{ℕ}
 use lib.Dec.{ltb}
 use lib.ListN.{length, take}
 use Rattle.marks.specs.declared.mark.Mark.{Mark}

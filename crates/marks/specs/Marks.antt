@@ -1,7 +1,7 @@
 -- The order of marks: which is no worse than another, which marks a list covers, and which lists fall.
 use mathlib.Core.Bool.{Bool, true, false, _&&_, _||_}
 use mathlib.Core.List.{List, [], _∷_}
-use Prim.Native.Nat.{ℕ, _<_}
+use Prim.Native.Nat.{_<_}
 use lib.Dec.{ltb, leb}
 use Rattle.marks.specs.declared.mark.Mark.{Mark}
 

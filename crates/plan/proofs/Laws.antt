@@ -1,11 +1,11 @@
 -- A plan is not refused exactly if it may be used.
 use mathlib.Core.Path.{_≡_, refl, ap, sym, _∙_}
-use mathlib.Core.Bool.{Bool, true, false, _&&_, not}
+use mathlib.Core.Bool.{true, _&&_, not}
 use mathlib.Core.List.{List}
-use mathlib.Core.Logic.{_⊎_, inl, inr}
-use Prim.Native.Nat.{ℕ, _+_, _≤_, _<_}
+use mathlib.Core.Logic.{inl, inr}
+use Prim.Native.Nat.{ℕ, _≤_, _<_}
 use native.Mathlib.Omega.{arith}
-use lib.Dec.{eqb, leb}
+use lib.Dec.{leb}
 use lib.ListN.{length, getD}
 use Rattle.std.proofs.shelf.Tests.{cases-order, cases-bool, and-parts, and-from, not-true, not-from-false, both-ways, eqb-true, eq-eqb, ltb-true, lt-ltb, leb-true}
 use Rattle.std.proofs.shelf.Ways.{tells}
@@ -19,10 +19,10 @@ use Rattle.plan.specs.declared.leg.Leg.{Leg}
 use Rattle.plan.specs.declared.walk.Walk.{Walk}
 use Rattle.plan.specs.Legs.{Plan, leg, walk, change-at, piers, same-name, leg-within, walk-within, time-bound}
 use Rattle.plan.specs.Words.{plan-in, plan-end, Whole}
-use Rattle.plan.specs.Check.{then, all-below, first-not, is-new, fits, leg-ok, walk-ok, change-ok, legs-checked, walks-checked, changes-checked, parts-checked, counts-checked, plan-checked, sound-words}
+use Rattle.plan.specs.Check.{then, all-below, is-new, fits, leg-ok, walk-ok, change-ok, legs-checked, walks-checked, changes-checked, parts-checked, counts-checked, plan-checked, sound-words}
 use Rattle.plan.specs.Sound.{LegWithin, WalkWithin, Sound, Few, Usable}
 use Rattle.plan.specs.Keys.{all-fit}
-use Rattle.plan.proofs.Firsts.{all-below-all, all-below-from, all-below-hit, first-not-ok}
+use Rattle.plan.proofs.Firsts.{all-below-all, all-below-from, first-not-ok}
 use Rattle.plan.proofs.Parts.{count-legs, count-walks, count-piers}
 
 -- ---- bounds, as tests and as facts

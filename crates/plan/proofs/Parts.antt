@@ -1,13 +1,11 @@
 -- Where the legs, walks and changes of a plan lie in the words that hold it.
-use mathlib.Core.Path.{_≡_, refl, ap, sym, _∙_}
-use mathlib.Core.List.{List, [], _∷_}
+use mathlib.Core.Path.{_≡_, refl, ap, _∙_}
+use mathlib.Core.List.{List, []}
 use Prim.Native.Nat.{ℕ, zero, suc, _+_, _*_, _-_, _≤_, _<_}
 use native.Mathlib.Omega.{arith}
 use lib.Dec.{lit<}
 use lib.ListN.{length, getD, take, drop}
-use Rattle.std.proofs.shelf.Lists.{drop-drop, getD-take, getD-drop, length-take, length-take-le, length-drop}
-use Rattle.plan.specs.declared.leg.Leg.{Leg}
-use Rattle.plan.specs.declared.walk.Walk.{Walk}
+use Rattle.std.proofs.shelf.Lists.{drop-drop, getD-take, getD-drop, length-take-le, length-drop}
 use Rattle.plan.specs.Legs.{no-leg, no-walk, leg, walk, change-at, piers}
 use Rattle.plan.specs.Words.{leg-of, legs-in, walk-of, walks-in, legs-start, walks-start, Whole, plan-in}
 

@@ -20,7 +20,7 @@ use Rattle.rounds.specs.declared.query.Query.{Query}
 use Rattle.rounds.specs.declared.reply.Reply.{Reply}
 use Rattle.rounds.specs.Layout.{Alike}
 use Rattle.rounds.specs.Query.{query-checked}
-use Rattle.rounds.specs.Entry.{Answered-by, Told}
+use Rattle.rounds.specs.Entry.{Answered-by}
 
 -- ---- other legs, among which are all those of the plan
 abbrev with-legs : Plan → List Leg → Plan

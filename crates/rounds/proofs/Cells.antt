@@ -1,12 +1,10 @@
 -- The earliest time at one pier: what a leg and the walks from where it comes make of it.
 use mathlib.Core.Path.{_≡_, refl, sym, ap, subst, _∙_}
-use mathlib.Core.Bool.{Bool, true, false, cond}
 use mathlib.Core.Logic.{_⊎_, inl, inr, ⊎-elim}
 use mathlib.Core.List.{List}
 use Prim.Native.Nat.{ℕ, suc, _+_, _-_, _≤_, _<_, zero-le}
 use native.Mathlib.Omega.{arith}
 use native.Mathlib.Nat.{le-refl, add-zero}
-use lib.Dec.{ltb}
 use lib.ListN.{length, getD}
 use Rattle.std.proofs.shelf.Tests.{cases-lt, cases-eq}
 use Rattle.std.proofs.shelf.Ways.{tells}
@@ -15,7 +13,7 @@ use Rattle.plan.specs.Legs.{Plan, walk, no-walk}
 use Rattle.journey.specs.Journeys.{Ends}
 use Rattle.journey.specs.Journeys.Ends.{at-once, on-foot}
 use Rattle.rounds.specs.Layout.{Links, WalkAt}
-use Rattle.rounds.specs.Times.{never, Earliest, earlier, Put}
+use Rattle.rounds.specs.Times.{earlier, Put}
 use Rattle.rounds.proofs.Levels.{Gets, at-pier, on-walk}
 
 -- x₁ is the least of x and the times T

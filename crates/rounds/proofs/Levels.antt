@@ -1,24 +1,23 @@
 -- Levels: one round more, and the round that is the last.
 use mathlib.Core.Path.{_≡_, refl, sym, ap, subst, _∙_}
 use mathlib.Core.Bool.{true}
-use mathlib.Core.Logic.{_⊎_, inl, inr, ⊎-elim}
+use mathlib.Core.Logic.{_⊎_, ⊎-elim}
 use mathlib.Core.List.{List}
 use Prim.Native.Nat.{ℕ, suc, _+_, _≤_, _<_}
 use native.Mathlib.Omega.{arith}
 use native.Mathlib.Nat.{le-refl}
-use lib.Dec.{leb}
 use lib.ListN.{length, getD}
 use Rattle.std.proofs.shelf.Tests.{cases-lt, leb-true}
 use Rattle.plan.specs.declared.leg.Leg.{Leg}
 use Rattle.plan.specs.Legs.{Plan, leg, walk, runs, change-at}
 use Rattle.journey.specs.Steps.{stays}
-use Rattle.journey.specs.Aboard.{Aboard-by, Usable, Stayed, Boarded}
+use Rattle.journey.specs.Aboard.{Usable, Boarded}
 use Rattle.journey.specs.Aboard.Aboard-by.{start, stay, board}
 use Rattle.journey.proofs.Aboard.{aboard-in, aboard-more, aboard-some}
-use Rattle.journey.proofs.PlanLegs.{usable-place, usable-at}
+use Rattle.journey.proofs.PlanLegs.{usable-place}
 use Rattle.journey.proofs.Following.{boards-cases, boards-change, boards-walk, boards-le, stays-says}
-use Rattle.rounds.specs.Levels.{Seeded, Aboard-from, Levels, Sown}
-use Rattle.rounds.specs.Times.{never, Earliest}
+use Rattle.rounds.specs.Levels.{Aboard-from, Levels, Sown}
+use Rattle.rounds.specs.Times.{Earliest}
 
 -- who is at the pier s at the time t is at the pier d at the time u: that is the pier, and there it takes its minutes
 -- `c`, or a walk leads there

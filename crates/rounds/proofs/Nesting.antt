@@ -1,14 +1,14 @@
 -- The rounds: what holds before the first, what one more makes of it, and what the last one leaves.
 use mathlib.Core.Path.{_≡_, refl, sym, ap, subst, _∙_}
 use mathlib.Core.Bool.{Bool, true, false, cond}
-use mathlib.Core.Logic.{_⊎_, inl, inr, ⊎-elim}
-use mathlib.Core.List.{List, [], _∷_, _++_}
+use mathlib.Core.Logic.{_⊎_, ⊎-elim}
+use mathlib.Core.List.{List, [], _∷_}
 use Prim.Native.Nat.{ℕ, suc, _+_, _≤_, _<_}
 use native.Mathlib.Omega.{arith}
 use native.Mathlib.Nat.{le-refl, add-zero}
 use native.Mathlib.Numerals.{add-one}
 use lib.Dec.{ltb}
-use lib.ListN.{length, getD, set, replicate, length-set, length-replicate}
+use lib.ListN.{length, getD, set, replicate, length-replicate}
 use Rattle.std.proofs.shelf.Tests.{cases-lt, cases-eq, cond-both, ltb-true, ltb-false}
 use Rattle.std.proofs.shelf.Lists.{getD-replicate, getD-past}
 use Rattle.plan.specs.declared.leg.Leg.{Leg}
@@ -18,7 +18,6 @@ use Rattle.journey.specs.Journeys.Ends.{at-once, on-foot}
 use Rattle.journey.proofs.Aboard.{aboard-in}
 use Rattle.journey.proofs.PlanLegs.{usable-place}
 use Rattle.marks.specs.declared.mark.Mark.{Mark}
-use Rattle.marks.specs.Marks.{covered}
 use Rattle.marks.specs.Answers.{Answer-of}
 use Rattle.marks.specs.Fronts.{with-mark}
 use Rattle.marks.proofs.Marks.{covered-up, no-worse-by}
@@ -31,9 +30,9 @@ use Rattle.rounds.specs.Boarding.{Opens, Waiting}
 use Rattle.rounds.specs.Answers.{There, without, with-leg}
 use Rattle.rounds.proofs.Levels.{Comes, from-base, from-leg, Readies, Closed}
 use Rattle.rounds.proofs.Levels.{levels-none, levels-more, levels-settled, settled}
-use Rattle.rounds.proofs.Cells.{Lowers, Gone, gone-all, at-once-there, ends-gets, gets-ends}
-use Rattle.rounds.proofs.Scans.{Served, Scan, scan-none, scan-more, scan-late, scan-all, comes-none}
-use Rattle.rounds.proofs.Passes.{Fits, Lifted, lifted-none, lifted-more, lifted-closed, laid-fits}
+use Rattle.rounds.proofs.Cells.{Gone, gone-all, at-once-there, ends-gets, gets-ends}
+use Rattle.rounds.proofs.Scans.{Served, scan-none, scan-more, scan-late, scan-all, comes-none}
+use Rattle.rounds.proofs.Passes.{Fits, lifted-more, lifted-closed, laid-fits}
 use Rattle.rounds.proofs.Thinning.{Walks-in, Scanned, Passed, next-of}
 use Rattle.rounds.proofs.Thinning.{passed-here, inside, unset, opened, passed-keep, passed-more}
 

@@ -1,33 +1,25 @@
 -- The keys of a plan's legs in order: the leg that each was made for, and that they lay the legs out.
 use mathlib.Core.Path.{_≡_, refl, ap, sym, _∙_}
-use mathlib.Core.Bool.{true, cond}
+use mathlib.Core.Bool.{cond}
 use mathlib.Core.List.{List, [], _∷_}
 use mathlib.Core.Logic.{inl, inr}
 use Prim.Native.Nat.{ℕ, _+_, _≤_, _<_}
 use native.Mathlib.Omega.{arith}
 use lib.Dec.{eqb}
-use lib.ListN.{length, getD, set, take}
-use Rattle.std.specs.Results.{isOk}
+use lib.ListN.{length, getD, set}
 use Rattle.std.specs.Slices.{exchanged}
-use Rattle.std.specs.declared.result.Result.{Result}
-use Rattle.std.specs.declared.result.Result.the-variants.{Ok, Err}
 use Rattle.std.proofs.slice.Lists.{exchanged-is}
 use Rattle.std.proofs.shelf.Bits.{mod-mul-add}
 use Rattle.std.proofs.shelf.Elements.{has-getD}
 use Rattle.std.proofs.shelf.Lists.{length-set, getD-set-same, getD-set-other}
 use Rattle.std.proofs.shelf.Sorted.{shuffled-keeps, shuffled-sym, length-shuffled, has-shuffled}
-use Rattle.std.proofs.shelf.Tests.{and-from, cases-eq, cases-order, eq-eqb, ne-eqb, cond-true, cond-false}
+use Rattle.std.proofs.shelf.Tests.{cases-eq, cases-order, eq-eqb, ne-eqb, cond-true, cond-false}
 use Rattle.std.proofs.shelf.Ways.{tells}
 use Rattle.plan.specs.declared.leg.Leg.{Leg}
-use Rattle.plan.specs.declared.refusal.Refusal.{Refusal}
-use Rattle.plan.specs.Legs.{Plan, no-leg, leg, piers}
-use Rattle.plan.specs.Words.{plan-in}
-use Rattle.plan.specs.Check.{then, fits, counts-checked, parts-checked, plan-checked}
+use Rattle.plan.specs.Legs.{Plan, no-leg, leg}
 use Rattle.plan.specs.Sound.{Sound}
-use Rattle.plan.specs.Keys.{name-of, key-of, key-place, leg-keys, all-fit, Ordered, KeysLeft}
-use Rattle.plan.proofs.Firsts.{all-below-from}
+use Rattle.plan.specs.Keys.{name-of, key-of, key-place, leg-keys, Ordered}
 use Rattle.plan.proofs.Keys.{length-keys, getD-keys}
-use Rattle.plan.proofs.Laws.{leg-fits, usable}
 use Rattle.rounds.specs.Opened.{place-at, LegsLaid}
 
 -- ---- no two places hold one number, and an exchange of two places keeps that
@@ -183,21 +175,3 @@ module _ (p : Plan) (keys : List ℕ) (few : length (p .legs) ≤ 65536) (o : Or
               let z = names-rise c m l (omega arith) in
               omega arith;
         }
-
--- ---- where the keys come from: the check leaves them in order in the row that it is lent, if it finds nothing wrong
-then-first : {A B : Type 0} (r : Result A Refusal) (k : A → Result B Refusal) → isOk (then r k) ≡ true → isOk r ≡ true
-then-first (Ok a) k h = refl
-then-first (Err e) k h = h
-
-counts-ok : (xs : List ℕ) → isOk (plan-checked xs) ≡ true → isOk (counts-checked xs) ≡ true
-unfolding plan-checked
-counts-ok xs h = then-first (counts-checked xs) (λ c. then (parts-checked (plan-in xs)) (λ _. Ok c)) h
-
-sound-fit : (p : Plan) → Sound p → all-fit p ≡ true
-sound-fit p s = all-below-from (fits p) (length (p .legs)) (λ i l. leg-fits (piers p) (leg p i) (s .legs i l))
-
--- Where nothing is wrong every leg is within its bounds, so each had a key.
-pub checked-ordered : {xs row row₁ : List ℕ} → isOk (plan-checked xs) ≡ true → KeysLeft xs row row₁ →
-    Ordered (plan-in xs) (take (length (plan-in xs .legs)) row₁)
-checked-ordered {xs} h left =
-    left .ordered (and-from _ _ (counts-ok xs h) (sound-fit (plan-in xs) (usable xs h .sound)))

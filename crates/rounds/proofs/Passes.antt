@@ -1,7 +1,7 @@
 -- What the pass over the legs of a round makes of the levels.
 use mathlib.Core.Path.{_≡_, refl, sym, ap, subst, _∙_}
 use mathlib.Core.Bool.{Bool, true, false}
-use mathlib.Core.Logic.{_⊎_, inl, inr, ⊎-elim, _≢_}
+use mathlib.Core.Logic.{_⊎_, ⊎-elim, _≢_}
 use mathlib.Core.List.{List}
 use Prim.Native.Nat.{ℕ, suc, _+_, _-_, _≤_, _<_}
 use native.Mathlib.Omega.{arith}
@@ -11,13 +11,11 @@ use lib.Seq.{getD-set-same, getD-set-other}
 use Rattle.std.specs.Orderings.{Decides}
 use Rattle.std.proofs.shelf.Tests.{cases-lt, cases-eq, both-ways, leb-true, le-leb}
 use Rattle.plan.specs.declared.leg.Leg.{Leg}
-use Rattle.plan.specs.Legs.{Plan, leg, runs, piers, time-bound}
-use Rattle.journey.specs.Steps.{stays}
-use Rattle.journey.specs.Aboard.{Usable}
-use Rattle.journey.specs.Aboard.Aboard-by.{start, stay, board}
+use Rattle.plan.specs.Legs.{Plan, leg, runs, piers}
+use Rattle.journey.specs.Aboard.Aboard-by.{start, stay}
 use Rattle.journey.proofs.PlanLegs.{usable-at}
 use Rattle.rounds.specs.Layout.{JoinAt, InRuns, Laid}
-use Rattle.rounds.specs.Levels.{Seeded, Aboard-from, Levels}
+use Rattle.rounds.specs.Levels.{Aboard-from, Levels}
 use Rattle.rounds.specs.Times.{never}
 use Rattle.rounds.specs.Boarding.{Opens, from-outside, from-pier, from-before}
 use Rattle.rounds.proofs.Levels.{Readies, Kept, Closed, seeds-more, ready-boards}

@@ -1,26 +1,24 @@
 -- A question: the legs that it seeds are those that a journey can begin with, and what is reached from them is what
 -- journeys reach.
 use mathlib.Core.Path.{_≡_, refl, sym, ap, subst, _∙_}
-use mathlib.Core.Bool.{Bool, true, false, cond}
-use mathlib.Core.Logic.{_⊎_, inl, inr, ⊎-elim}
+use mathlib.Core.Bool.{Bool, true, cond}
+use mathlib.Core.Logic.{_⊎_, ⊎-elim}
 use mathlib.Core.List.{List}
 use Prim.Native.Nat.{ℕ, _+_, _≤_, _<_}
 use native.Mathlib.Omega.{arith}
 use native.Mathlib.Nat.{le-refl, add-zero}
-use lib.Dec.{leb}
 use lib.ListN.{length, getD, replicate, length-replicate}
-use Rattle.std.specs.Orderings.{Decides}
 use Rattle.std.proofs.shelf.Lists.{getD-replicate}
 use Rattle.std.proofs.shelf.Tests.{cases-bool, cond-true, cond-false, leb-true, le-leb}
 use Rattle.std.proofs.shelf.Ways.{same-from-decides}
 use Rattle.plan.specs.declared.leg.Leg.{Leg}
-use Rattle.plan.specs.Legs.{Plan, leg, walk, piers, time-bound}
+use Rattle.plan.specs.Legs.{Plan, leg, walk, piers}
 use Rattle.journey.specs.declared.question.Question.{Question}
 use Rattle.journey.specs.Steps.{begins}
 use Rattle.journey.specs.Journeys.{Ends, Reached}
 use Rattle.journey.specs.Journeys.Ends.{at-once, on-foot}
 use Rattle.journey.specs.Journeys.Reached.{without-boat}
-use Rattle.journey.specs.Aboard.{Aboard-by, Aboard, Begun, Usable, Stayed, Boarded}
+use Rattle.journey.specs.Aboard.{Aboard, Begun, Usable}
 use Rattle.journey.specs.Aboard.Aboard-by.{start, stay, board}
 use Rattle.journey.proofs.Aboard.{aboard-map, aboard-holds}
 use Rattle.journey.proofs.Following.{begins-cases, begins-here, begins-walk, begins-le}

@@ -4,7 +4,7 @@ use mathlib.Core.Bool.{Bool, true}
 use mathlib.Core.List.{List}
 use Prim.Native.Nat.{ℕ, suc, _≤_, _<_}
 use lib.Dec.{leb}
-use lib.ListN.{length, getD}
+use lib.ListN.{getD}
 use Rattle.plan.specs.declared.leg.Leg.{Leg}
 use Rattle.plan.specs.Legs.{Plan, leg, runs}
 use Rattle.journey.specs.Steps.{stays}

@@ -1,4 +1,3 @@
-use borrow.Author.Needs.{needs}
 use mathlib.Core.Path.{_≡_, sym, subst}
 use native.Mathlib.Omega.{arith}
 use Prim.Native.Nat.{ℕ, _+_, _<_}
@@ -6,8 +5,6 @@ use lib.ListN.{length}
 use borrow.Author.Tests.{ltb-true, ltb-false}
 use Rattle.plan.specs.Words.{plan-in}
 use Rattle.plan.proofs.Laws.{sound-plan}
-use Rattle.journey.specs.declared.name.LegName.{LegName}
-use Rattle.journey.specs.Journeys.{Named-once}
 use Rattle.journey.specs.Checked.{at-first, at-leg, Verdict}
 use Rattle.journey.proofs.Naming.{sound-once}
 use Rattle.journey.proofs.Trails.{Trail, trail-one, trail-more, no-first, no-next, told-all, told-none}

@@ -1,11 +1,9 @@
 use borrow.Author.Needs.{needs}
-use mathlib.Core.Path.{_≡_, sym, ap, _∙_}
-use mathlib.Core.Bool.{true, false}
+use mathlib.Core.Path.{sym, ap}
 use native.Mathlib.Omega.{arith}
-use lib.ListN.{length}
 use Rattle.std.specs.Results.{isOk}
-use Rattle.plan.specs.Check.{plan-checked, counts-checked}
-use Rattle.plan.proofs.Laws.{Counted, counted}
+use Rattle.plan.specs.Check.{plan-checked}
+use Rattle.plan.proofs.Laws.{counted}
 use Rattle.plan.proofs.Keys.{keys-same, keys-left}
 use Rattle.plan.proofs.checking.check_all.Needs as need
 

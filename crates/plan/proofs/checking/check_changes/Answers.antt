@@ -1,5 +1,4 @@
 use borrow.Author.Needs.{needs}
-use lib.ListN.{length}
 use Rattle.plan.specs.declared.refusal.Refusal.the-variants.{BadChange}
 use Rattle.plan.specs.Legs.{piers}
 use Rattle.plan.specs.Words.{plan-in}

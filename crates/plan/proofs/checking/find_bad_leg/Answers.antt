@@ -1,7 +1,6 @@
 use borrow.Author.Needs.{needs}
 use lib.ListN.{length}
 use Rattle.plan.specs.declared.refusal.Refusal.the-variants.{BadLeg}
-use Rattle.plan.specs.Legs.{piers}
 use Rattle.plan.specs.Words.{plan-in}
 use Rattle.plan.specs.Check.{leg-ok}
 use Rattle.plan.proofs.Firsts.{first-not-none, first-not-more, first-not-hit}

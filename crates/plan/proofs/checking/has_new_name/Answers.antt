@@ -1,8 +1,5 @@
 use borrow.Author.Needs.{needs}
-use native.Mathlib.Omega.{arith}
 use mathlib.Core.Bool.{not}
-use mathlib.Core.Path.{sym}
-use Rattle.std.proofs.shelf.Ways.{tells}
 use Rattle.plan.specs.Legs.{leg, same-name}
 use Rattle.plan.specs.Words.{plan-in}
 use Rattle.plan.proofs.Firsts.{all-below-none, all-below-more, all-below-hit}

@@ -1,8 +1,6 @@
-use mathlib.Core.Path.{_≡_, refl}
-use mathlib.Core.Bool.{true, false}
-use Prim.Native.Nat.{_≤_, _-_}
+use mathlib.Core.Path.{refl}
+use Prim.Native.Nat.{_-_}
 use native.Mathlib.Omega.{arith}
-use lib.ListN.{getD}
 use Rattle.std.proofs.shelf.Tests.{both-ways}
 use Rattle.rounds.specs.Rows.{plan-of}
 use Rattle.rounds.proofs.Passes.{opens-joined, opens-else}

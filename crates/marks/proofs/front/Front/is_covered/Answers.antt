@@ -1,5 +1,4 @@
 use mathlib.Core.Path.{sym, ap, _∙_}
-use lib.ListN.{length}
 use Rattle.marks.specs.Marks.{covered}
 use Rattle.marks.proofs.Marks.{covered-skip, covered-stop, covered-end}
 use Rattle.marks.proofs.front.Front.is_covered.Needs as need
