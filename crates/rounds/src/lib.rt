@@ -6,4 +6,4 @@ pub mod opening;
 pub mod query;
 pub mod reply;
 pub mod rounds;
-mod steps;
+pub mod steps;

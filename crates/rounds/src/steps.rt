@@ -20,14 +20,14 @@ use plan::walk::Walk;
 // Later than any time of a plan, and than any sum of two.
 pub(crate) const NEVER: u64 = 1099511627776;
 
-pub(crate) fn leg_at(legs: &[Leg], i: usize) -> Leg
+pub fn leg_at(legs: &[Leg], i: usize) -> Leg
     requires { ⌜ i < length (now legs) ⌝ }
     ensures { λ r. ⌜ r ≡ getD (now (legs .entry)) i no-leg ⌝ }
 {
     legs[i]
 }
 
-pub(crate) fn walk_at(walks: &[Walk], j: usize) -> Walk
+pub fn walk_at(walks: &[Walk], j: usize) -> Walk
     requires { ⌜ j < length (now walks) ⌝ }
     ensures { λ r. ⌜ r ≡ getD (now (walks .entry)) j no-walk ⌝ }
 {

@@ -1,0 +1,10 @@
+pub mod Preceding
+pub mod Backwards
+pub mod Exact
+pub mod Greedy
+pub mod Chained
+pub mod Picking
+pub mod Counting
+pub mod SteppingBack
+pub mod Writing
+pub mod SamePlan

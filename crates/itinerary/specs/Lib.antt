@@ -1,0 +1,4 @@
+pub mod Order
+pub mod OrderExamples
+pub mod Tracing
+pub mod Named
