@@ -35,7 +35,7 @@ const ROOM: usize = 2049;
 
 // Writes the itinerary for a mark of the answer into the row; how many legs it has. The levels are those that the answer
 // left.
-fn write_journey(layout: Layout, level: &[u8], q: Question, mark: Mark, out: &mut [u64]) -> u64
+pub fn write_journey(layout: Layout, level: &[u8], q: Question, mark: Mark, out: &mut [u64]) -> u64
     requires laid { ⌜ Lies layout ⌝ }
     requires few { ⌜ Few (plan-of layout) ⌝ }
     requires once { ⌜ Named-once (now (layout .legs)) ⌝ }
