@@ -14,7 +14,8 @@ use Rattle.journey.specs.Journeys.{joined, boats, last, Ends, Journey}
 use Rattle.journey.specs.Aboard.{Usable, Aboard}
 use Rattle.journey.specs.Aboard.Aboard-by.{start, stay, board}
 use Rattle.journey.proofs.Following.{follows-stay, follows-board, follows-else}
-use Rattle.journey.proofs.Chains.{joined-none, joined-says, joined-more, last-none, last-more, boats-none, boats-stay, boats-board, boats-some}
+use Rattle.journey.proofs.Chains.{joined-none, joined-says, joined-more, last-none, last-more, boats-none}
+use Rattle.journey.proofs.Chains.{Link, boats-stay, boats-board, boats-some}
 use Rattle.itinerary.specs.Order.{Reaching}
 use Rattle.itinerary.specs.Order.Reaching.{on-foot-alone, by-legs-there}
 
@@ -70,7 +71,12 @@ module _ {p : Plan} {s t : ℕ} where
       let w = aboard-trail x in
       ⊎-elim
       (λ h. record { taken = w .taken; legs = a ∷ w .legs; few = omega (arith, w .few); on = trail-stay (w .on) h u })
-      (λ h. record { taken = suc (w .taken); legs = a ∷ w .legs; few = omega (arith, w .few); on = trail-board (w .on) h e u })
+      (λ h. record {
+        taken = suc (w .taken);
+        legs = a ∷ w .legs;
+        few = omega (arith, w .few);
+        on = trail-board (w .on) h e u;
+      })
       (cases-bool (stays a b))
 
   -- ---- a journey told forwards is one told back, and the other way round
@@ -82,15 +88,20 @@ module _ {p : Plan} {s t : ℕ} where
       (zs : List Leg) × (reverseAux bs (a ∷ xs) ≡ last a bs ∷ zs) × Trail p s t n (last a bs) zs
   joined-trail [] {k} {a} {xs} x j n e =
       let same : k ≡ n = omega (arith, boats-none a) in
-      let is = sym (last-none a) in
-      (xs, ap (λ (b : Leg). b ∷ xs) is, subst (λ (b : Leg). Trail p s t n b xs) is (subst (λ (m : ℕ). Trail p s t m a xs) same x))
+      let is = sym (last-none a) in (
+        xs,
+        ap (λ (b : Leg). b ∷ xs) is,
+        subst (λ (b : Leg). Trail p s t n b xs) is
+            (subst (λ (m : ℕ). Trail p s t m a xs) same x),
+      )
   joined-trail (b ∷ bs) {k} {a} {xs} x j n e =
       let l = joined-says p a b bs j in
       let u : Usable p b = record { known = l .known; going = l .going } in
       let is = sym (last-more a b bs) in
       let (zs, told, on) = ⊎-elim
       (λ h. joined-trail bs (trail-stay x h u) (l .linked) n (omega (arith, boats-stay a b bs h)))
-      (λ h. joined-trail bs (trail-board x h (follows-else p a b (l .follow) h) u) (l .linked) n (omega (arith, boats-board a b bs h)))
+      (λ h. joined-trail bs (trail-board x h (follows-else p a b (l .follow) h) u) (l .linked) n
+      (omega (arith, boats-board a b bs h)))
       (cases-bool (stays a b)) in
       (zs, told ∙ ap (λ (c : Leg). c ∷ zs) is, subst (λ (c : Leg). Trail p s t n c zs) is on)
 
@@ -115,7 +126,9 @@ module _ {p : Plan} {s t : ℕ} where
     takes = omega arith;
   }
   trail-forwards {b = b} bs (trail-stay {a = a} x e u) j =
-      let linked = joined-more p a b bs (record { follow = follows-stay p a b e; known = u .known; going = u .going; linked = j }) in
+      let follow = follows-stay p a b e in
+      let link : Link p a b bs = record { follow = follow; known = u .known; going = u .going; linked = j } in
+      let linked = joined-more p a b bs link in
       let w = trail-forwards (b ∷ bs) x linked in
       record {
         first = w .first;
@@ -126,7 +139,9 @@ module _ {p : Plan} {s t : ℕ} where
         takes = omega (arith, w .takes, boats-stay a b bs e);
       }
   trail-forwards {b = b} bs (trail-board {a = a} x n e u) j =
-      let linked = joined-more p a b bs (record { follow = follows-board p a b e; known = u .known; going = u .going; linked = j }) in
+      let follow = follows-board p a b e in
+      let link : Link p a b bs = record { follow = follow; known = u .known; going = u .going; linked = j } in
+      let linked = joined-more p a b bs link in
       let w = trail-forwards (b ∷ bs) x linked in
       record {
         first = w .first;
@@ -165,4 +180,5 @@ module _ {p : Plan} {q : Question} {u : ℕ} where
 -- without a boat there are no legs
 pub no-boat-no-legs : {p : Plan} {q : Question} {u k : ℕ} {legs : List Leg} → k ≡ 0 → Reaching p q u k legs → legs ≡ []
 no-boat-no-legs none (on-foot-alone e) = refl
-no-boat-no-legs none (by-legs-there {first = first} {rest = rest} j e is) = absurd (omega (arith, is, boats-some first rest))
+no-boat-no-legs none (by-legs-there {first = first} {rest = rest} j e is) =
+    absurd (omega (arith, is, boats-some first rest))

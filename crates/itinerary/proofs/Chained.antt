@@ -21,7 +21,8 @@ pub record Missed (ws : List Walk) (P : ℕ → Type 0) (s at : ℕ) : Type 0 wh
   pub here : WalkAt ws s at
   pub none : (i : ℕ) → at ≤ i → i < length ws → getD ws i no-walk .from ≡ s → P i → ⊥
 
-module _ {ws : List Walk} {n : ℕ} {first link : List ℕ} (ls : Links ws n first link (length ws)) {P : ℕ → Type 0} {s : ℕ} where
+module _ {ws : List Walk} {n : ℕ} {first link : List ℕ} (ls : Links ws n first link (length ws))
+    {P : ℕ → Type 0} {s : ℕ} where
   pub missed-none : s < n → Missed ws P s (getD first s 0)
   missed-none h = record {
     here = ls .first-at s h;
@@ -78,7 +79,8 @@ found-walks ws s t d u v h e =
 abbrev pub There-at : List Walk → ℕ → ℕ → ℕ → ℕ → Type 0
 There-at ws t d u i = (getD ws i no-walk .to ≡ d) × (t + getD ws i no-walk .takes ≡ u)
 
-pub missed-ends : {p : Plan} {d s t u at : ℕ} → at ≡ 0 → ((s ≡ d) × (t ≡ u) → ⊥) → Missed (p .walks) (There-at (p .walks) t d u) s at →
+pub missed-ends : {p : Plan} {d s t u at : ℕ} → at ≡ 0 → ((s ≡ d) × (t ≡ u) → ⊥) →
+    Missed (p .walks) (There-at (p .walks) t d u) s at →
     Ends p d s t u → ⊥
 missed-ends done not m at-once = not (refl, refl)
 missed-ends done not m (on-foot j h e f) = m .none j (omega arith) h e (f, refl)

@@ -7,7 +7,8 @@ use Prim.Native.Nat.{ℕ, zero, suc, _+_, _≤_, _<_}
 use native.Mathlib.Omega.{arith}
 use lib.Dec.{eqb, ltb}
 use lib.ListN.{length}
-use Rattle.std.proofs.shelf.Tests.{cases-bool, cases-eq, cond-true, cond-false, or-cases, or-left, or-right, and-parts, and-from, eqb-true, lt-ltb}
+use Rattle.std.proofs.shelf.Tests.{cases-bool, cases-eq, cond-true, cond-false, or-cases, or-left, or-right}
+use Rattle.std.proofs.shelf.Tests.{and-parts, and-from, eqb-true, lt-ltb}
 use Rattle.std.proofs.shelf.Ways.{tells}
 use Rattle.plan.specs.Legs.{Plan, leg}
 use Rattle.journey.specs.Steps.{stays}

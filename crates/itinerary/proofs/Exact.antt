@@ -7,7 +7,8 @@ use Prim.Native.Nat.{ℕ, suc, _+_, _≤_, _<_}
 use native.Mathlib.Omega.{arith}
 use lib.Dec.{eqb, ltb}
 use lib.ListN.{length}
-use Rattle.std.proofs.shelf.Tests.{cases-lt, or-cases, or-left, or-right, and-parts, and-from, eqb-true, eq-eqb, lt-ltb, ltb-true}
+use Rattle.std.proofs.shelf.Tests.{cases-lt, or-cases, or-left, or-right, and-parts, and-from, eqb-true, eq-eqb}
+use Rattle.std.proofs.shelf.Tests.{lt-ltb, ltb-true}
 use Rattle.plan.specs.declared.leg.Leg.{Leg}
 use Rattle.plan.specs.Legs.{Plan, leg}
 use Rattle.journey.specs.declared.question.Question.{Question}
@@ -86,7 +87,8 @@ module _ {p : Plan} {s t most : ℕ} {level : List ℕ} (ls : Levels (Aboard p s
       by-stay e on =
           let w = usable-place (trail-usable on) in
           let y = w .place in
-          let low = ls .least y (level-at level i) (w .within) few (subst (Aboard p s t (level-at level i)) (sym (w .is)) (trail-aboard on)) in
+          let low = ls .least y (level-at level i) (w .within) few
+          (subst (Aboard p s t (level-at level i)) (sym (w .is)) (trail-aboard on)) in
           let st = subst (λ (z : Leg). stays z (leg p i) ≡ true) (sym (w .is)) e in
           let high = stay-level i y h (w .within) a (low .0) st in
           let same : level-at level i ≡ level-at level y = omega (arith, low .1) in
@@ -98,11 +100,13 @@ module _ {p : Plan} {s t most : ℕ} {level : List ℕ} (ls : Levels (Aboard p s
             on = subst (λ (k : ℕ). Trail p s t k c zs) same on;
           }
 
-      by-boat : (j : ℕ) → suc j ≡ level-at level i → boards p c (leg p i) ≡ true → Trail p s t j c zs → Before-leg p s t level i c zs
+      by-boat : (j : ℕ) → suc j ≡ level-at level i → boards p c (leg p i) ≡ true → Trail p s t j c zs →
+          Before-leg p s t level i c zs
       by-boat j one e on =
           let w = usable-place (trail-usable on) in
           let y = w .place in
-          let low = ls .least y j (w .within) (omega (arith, few)) (subst (Aboard p s t j) (sym (w .is)) (trail-aboard on)) in
+          let low = ls .least y j (w .within) (omega (arith, few))
+          (subst (Aboard p s t j) (sym (w .is)) (trail-aboard on)) in
           let bd = subst (λ (z : Leg). boards p z (leg p i) ≡ true) (sym (w .is)) e in
           let high = board-level i y h (w .within) a (low .0) (omega (arith, low .1)) bd in
           let same : j ≡ level-at level y = omega (arith, low .1) in
@@ -136,7 +140,8 @@ final-leg {p} {q} {most} {level} {ms} {m} ls a among w =
     let x = v .place in
     let is = sym (v .is) in
     let ends = subst (λ (l : Leg). Ends p (q .to) (l .to) (l .comes) (m .arrival)) is (w .ends) in
-    let low = ls .least x (m .boats) (v .within) (a .few m among) (subst (Aboard p (q .from) (q .time) (m .boats)) is (trail-aboard (w .on))) in
+    let low = ls .least x (m .boats) (v .within) (a .few m among)
+    (subst (Aboard p (q .from) (q .time) (m .boats)) is (trail-aboard (w .on))) in
     (x, v .within, v .is, record { some = low .0; boats = exact x (v .within) (low .0) (low .1) ends; ends = ends })
   where
     exact : (x : ℕ) → x < length (p .legs) → 0 < level-at level x → level-at level x ≤ m .boats →

@@ -40,7 +40,8 @@ decided b c xs ys (inl is) rest =
     (λ e. inr (subst (λ (z : Leg). precedes (b ∷ xs) (z ∷ ys) ≡ true) (sym is) (precedes-on b xs ys e)))
     (rest is)
 
-module _ {p : Plan} (q : Question) {most : ℕ} {level : List ℕ} (ls : Levels (Aboard p (q .from) (q .time)) p most level) where
+module _ {p : Plan} (q : Question) {most : ℕ} {level : List ℕ}
+    (ls : Levels (Aboard p (q .from) (q .time)) p most level) where
   -- where a journey can begin with the leg and one boat, it does: what has no more legs comes first
   pub first-none : (i : ℕ) → i < length (p .legs) → 0 < level-at level i → starts p q level i ≡ true →
       First-trail p (q .from) (q .time) (level-at level i) (leg p i) []
@@ -48,7 +49,8 @@ module _ {p : Plan} (q : Question) {most : ℕ} {level : List ℕ} (ls : Levels 
       let parts = and-parts (eqb (level-at level i) 1) _ e in
       let one = sym (eqb-true _ _ (parts .0)) in
       record {
-        on = subst (λ (k : ℕ). Trail p (q .from) (q .time) k (leg p i) []) one (trail-start (parts .1) (level-usable ls i h l));
+        on = subst (λ (k : ℕ). Trail p (q .from) (q .time) k (leg p i) []) one
+            (trail-start (parts .1) (level-usable ls i h l));
         first = λ ys x. after ys;
       }
     where
@@ -76,7 +78,8 @@ module _ {p : Plan} (q : Question) {most : ℕ} {level : List ℕ} (ls : Levels 
       First-trail p (q .from) (q .time) (level-at level x) (leg p x) xs →
       First-trail p (q .from) (q .time) (level-at level i) (leg p i) (leg p x ∷ xs)
   greedy-first i x xs h l none c f = record {
-    on = ⊎-elim (λ g. by-stay g) (λ g. by-boat g) (or-cases (eqb (level-at level x) (level-at level i) && stays (leg p x) (leg p i)) _ (c .good));
+    on = ⊎-elim (λ g. by-stay g) (λ g. by-boat g)
+        (or-cases (eqb (level-at level x) (level-at level i) && stays (leg p x) (leg p i)) _ (c .good));
     first = λ ys y. others ys y;
   }
     where
@@ -90,10 +93,12 @@ module _ {p : Plan} (q : Question) {most : ℕ} {level : List ℕ} (ls : Levels 
           let on = subst (λ (k : ℕ). Trail p (q .from) (q .time) k (leg p x) xs) (eqb-true _ _ (parts .0)) (f .on) in
           trail-stay on (parts .1) (level-usable ls i h l)
 
-      by-boat : (ltb 0 (level-at level x) && (eqb (level-at level i) (level-at level x + 1) && boards p (leg p x) (leg p i))) ≡ true →
+      by-boat : (ltb 0 (level-at level x)
+          && (eqb (level-at level i) (level-at level x + 1) && boards p (leg p x) (leg p i))) ≡ true →
           Trail p (q .from) (q .time) (level-at level i) (leg p i) (leg p x ∷ xs)
       by-boat g =
-          let parts = and-parts (eqb (level-at level i) (level-at level x + 1)) _ (and-parts (ltb 0 (level-at level x)) _ g .1) in
+          let parts = and-parts (eqb (level-at level i) (level-at level x + 1)) _
+          (and-parts (ltb 0 (level-at level x)) _ g .1) in
           let next = eqb-true _ _ (parts .0) in
           let same : suc (level-at level x) ≡ level-at level i = omega arith in
           let on = trail-board (f .on) (no-stay next) (parts .1) (level-usable ls i h l) in
@@ -152,7 +157,8 @@ module _ {p : Plan} {q : Question} {level : List ℕ} {m : Mark} (known : Marked
       First-trail p (q .from) (q .time) (level-at level x) (leg p x) xs →
       Itinerary p q (m .arrival) (m .boats) (reverseAux xs (leg p x ∷ []))
   greedy-last x xs c f = record {
-    reaching = back-reaching (subst (λ (k : ℕ). Trail p (q .from) (q .time) k (leg p x) xs) (c .good .boats) (f .on)) (c .good .ends);
+    reaching = back-reaching (subst (λ (k : ℕ). Trail p (q .from) (q .time) k (leg p x) xs) (c .good .boats) (f .on))
+        (c .good .ends);
     first = λ others o. after others (reaching-back (omega (arith, c .good .some, c .good .boats)) o);
   }
     where

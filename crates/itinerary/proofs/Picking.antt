@@ -68,7 +68,8 @@ module _ (p : Plan) (Good : ℕ → Type 0) where
         good = c .good;
         first = λ y l g. elim (cases-eq y n) [
           | inl is ↦ subst (λ z. (leg p z ≡ leg p x) ⊎ (before (leg p x) (leg p z) ≡ true)) (sym is)
-              (before-else (p .legs) once (leg p n) (leg p x) (place-in-plan (p .legs) n h) (place-in-plan (p .legs) x (omega (arith, c .within))) e)
+              (before-else (p .legs) once (leg p n) (leg p x) (place-in-plan (p .legs) n h)
+              (place-in-plan (p .legs) x (omega (arith, c .within))) e)
           | inr ne ↦ c .first y (omega arith) g
         ];
       })

@@ -52,7 +52,8 @@ precedes-apart [] (y ∷ ys) e f = false≢true f
 precedes-apart (x ∷ xs) [] e f = false≢true e
 precedes-apart (x ∷ xs) (y ∷ ys) e f = by (precedes-apart xs ys) (or-cases (before x y) _ e) (or-cases (before y x) _ f)
   where
-    by : (precedes xs ys ≡ true → precedes ys xs ≡ true → ⊥) → (before x y ≡ true) ⊎ ((same-leg x y && precedes xs ys) ≡ true) →
+    by : (precedes xs ys ≡ true → precedes ys xs ≡ true → ⊥) →
+        (before x y ≡ true) ⊎ ((same-leg x y && precedes xs ys) ≡ true) →
         (before y x ≡ true) ⊎ ((same-leg y x && precedes ys xs) ≡ true) → ⊥
     by ih (inl a) (inl b) = before-apart x y a b
     by ih (inl a) (inr b) = before-same x y a (and-parts _ _ b .0)
@@ -91,7 +92,8 @@ journeys-ordered = (
       ⊎-elim
       (λ e. inl (sym (reverse-reverse legs) ∙ ap reverse e ∙ reverse-reverse others))
       inr
-      (precedes-total (p .legs) once (reverse legs) (reverse others) (all-onto (λ a. in-plan a (p .legs) ≡ true) legs [] i tt)
+      (precedes-total (p .legs) once (reverse legs) (reverse others)
+      (all-onto (λ a. in-plan a (p .legs) ≡ true) legs [] i tt)
       (all-onto (λ a. in-plan a (p .legs) ≡ true) others [] j tt)),
 )
 

@@ -61,7 +61,12 @@ named-alike p p₁ a qs m row r row₁ x =
     of b (row-short h e f) = row-short h e f
     of b (not-told h ms an no-one e f) = not-told h ms (answer-alike a an) no-one e f
     of b (named h ms an among n w e) =
-        let same : Written p (b .question) m row n row₁ = record { legs = w .legs; itinerary = itinerary-alike a (w .itinerary); many = w .many; after = w .after } in
+        let same : Written p (b .question) m row n row₁ = record {
+          legs = w .legs;
+          itinerary = itinerary-alike a (w .itinerary);
+          many = w .many;
+          after = w .after;
+        } in
         named h ms (answer-alike a an) among n same e
 
     by : (o : Result Query Refusal) → Named-by o p₁ m row r row₁ → Named-by o p m row r row₁

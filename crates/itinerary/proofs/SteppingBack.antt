@@ -18,12 +18,14 @@ use Rattle.rounds.specs.Layout.{InRuns}
 use Rattle.itinerary.specs.Order.{Itinerary}
 use Rattle.itinerary.specs.Tracing.{level-at, Prior, starts, Final, Chosen, Marked, Stepped, legs-from, Places}
 use Rattle.itinerary.proofs.Exact.{prior-some}
-use Rattle.itinerary.proofs.Greedy.{First-trail, first-none, prior-there, greedy-first, itinerary-none, final-there, greedy-last}
+use Rattle.itinerary.proofs.Greedy.{First-trail, first-none, prior-there, greedy-first, itinerary-none, final-there}
+use Rattle.itinerary.proofs.Greedy.{greedy-last}
 use Rattle.itinerary.proofs.Counting.{room, room-less, room-most, prior-lower}
 
 -- The next leg is the one at i, and behind it come the legs that were found: with the journey that comes first of those
 -- that end with the leg at i they are the itinerary. There is room in the row for every leg that may still come.
-pub record Going-back (p : Plan) (q : Question) (level : List ℕ) (m : Mark) (at : ℕ) (legs : List Leg) (i : ℕ) : Type 0 where
+pub record Going-back (p : Plan) (q : Question) (level : List ℕ) (m : Mark) (at : ℕ) (legs : List Leg) (i : ℕ) :
+    Type 0 where
   pub within : i < length (p .legs)
   pub some : 0 < level-at level i
   pub space : room level (length (p .legs)) i < at
@@ -35,7 +37,8 @@ Tracing p q level m None at legs = Itinerary p q (m .arrival) (m .boats) legs
 Tracing p q level m (Some i) at legs = Going-back p q level m at legs i
 
 -- The same for each mark whose last leg was the one that the search began with: the loop has no mark at hand.
-pub record Traced (p : Plan) (q : Question) (level : List ℕ) (from next : Option ℕ) (at : ℕ) (legs : List Leg) : Type 0 where
+pub record Traced (p : Plan) (q : Question) (level : List ℕ) (from next : Option ℕ) (at : ℕ) (legs : List Leg) :
+    Type 0 where
   pub for-mark : (m : Mark) → Marked p q level m → Chosen p (Final p q level m) (length (p .legs)) from →
       Tracing p q level m next at legs
 
@@ -73,7 +76,8 @@ module _ {p : Plan} {q : Question} {level : List ℕ} {m : Mark} (known : Marked
     within = c .within;
     some = prior-some (known .levels) i x (g .some) (c .good);
     space =
-        let less = room-less level (length (p .legs)) i x (c .within) (prior-lower p level i x runs (g .within) (c .within) (c .good)) in
+        let less = room-less level (length (p .legs)) i x (c .within)
+        (prior-lower p level i x runs (g .within) (c .within) (c .good)) in
         omega (arith, g .space);
     then = λ xs f. g .then (leg p x ∷ xs) (greedy-first q (known .levels) i x xs (g .within) (g .some) go-on c f);
   }
@@ -83,7 +87,8 @@ module _ {p : Plan} {q : Question} {level : List ℕ} {m : Mark} (known : Marked
       (o : Option ℕ) → Stepped p q level i o → to-come level (length (p .legs)) o < suc (room level (length (p .legs)) i)
   to-come-less runs i at legs g None s = omega arith
   to-come-less runs i at legs g (Some x) (go-on, c) =
-      let less = room-less level (length (p .legs)) i x (c .within) (prior-lower p level i x runs (g .within) (c .within) (c .good)) in
+      let less = room-less level (length (p .legs)) i x (c .within)
+      (prior-lower p level i x runs (g .within) (c .within) (c .good)) in
       omega arith
 
 -- ---- the row: a place more in front of those that stand in it
@@ -92,7 +97,9 @@ drop-put row at i h =
     let long : at < length (set row at i) = simp length-set h in
     let head = getD-set-same row at i 0 h in
     let tail = drop-set-lt (suc at) row at i (omega arith) in
-    drop-cons (set row at i) at 0 long ∙ ap (λ (x : ℕ). x ∷ drop (suc at) (set row at i)) head ∙ ap (λ (xs : List ℕ). i ∷ xs) tail
+    drop-cons (set row at i) at 0 long
+    ∙ ap (λ (x : ℕ). x ∷ drop (suc at) (set row at i)) head
+    ∙ ap (λ (xs : List ℕ). i ∷ xs) tail
 
 pub legs-put : (p : Plan) (row : List ℕ) (at at₁ i : ℕ) → suc at₁ ≡ at → at ≤ length row →
     legs-from p at₁ (set row at₁ i) ≡ leg p i ∷ legs-from p at row
@@ -103,7 +110,8 @@ pub places-put : (n : ℕ) (row : List ℕ) (at at₁ i : ℕ) → suc at₁ ≡
     Places n at₁ (set row at₁ i)
 places-put n row at at₁ i one h less ps c l r =
     ⊎-elim
-    (λ is. subst (λ (z : ℕ). getD (set row at₁ i) z 0 < n) (sym is) (omega (arith, getD-set-same row at₁ i 0 (omega arith))))
+    (λ is. subst (λ (z : ℕ). getD (set row at₁ i) z 0 < n) (sym is)
+    (omega (arith, getD-set-same row at₁ i 0 (omega arith))))
     (λ ne. omega (arith, getD-set-other row at₁ c i 0 ne, ps c (past ne) (simp length-set at r)))
     (cases-eq c at₁)
   where
@@ -119,11 +127,13 @@ legs-none p at row e = ap (λ (n : ℕ). map (leg p) (drop n row)) e ∙ ap (map
 -- ---- the loop
 module _ {p : Plan} {q : Question} {level : List ℕ} {from : Option ℕ} where
   pub going-at : {m : Mark} {o : Option ℕ} {at : ℕ} {legs : List Leg} {i : ℕ} → Traced p q level from o at legs →
-      Marked p q level m → Chosen p (Final p q level m) (length (p .legs)) from → o ≡ Some i → Going-back p q level m at legs i
+      Marked p q level m → Chosen p (Final p q level m) (length (p .legs)) from → o ≡ Some i →
+      Going-back p q level m at legs i
   going-at {m} {o} {at} {legs} t known c is =
       subst (λ (z : Option ℕ). Tracing p q level m z at legs) is (t .for-mark m known c)
 
-  pub traced-all : {m : Mark} {o : Option ℕ} {at : ℕ} {legs : List Leg} → Traced p q level from o at legs → Marked p q level m →
+  pub traced-all : {m : Mark} {o : Option ℕ} {at : ℕ} {legs : List Leg} → Traced p q level from o at legs →
+      Marked p q level m →
       Chosen p (Final p q level m) (length (p .legs)) from → o ≡ None → Itinerary p q (m .arrival) (m .boats) legs
   traced-all {m} {o} {at} {legs} t known c is =
       subst (λ (z : Option ℕ). Tracing p q level m z at legs) is (t .for-mark m known c)

@@ -44,7 +44,8 @@ module _ (f : ℕ → Leg) where
   length-legs (x ∷ ps) = ap suc (length-legs ps)
 
   -- the count, and the first so many legs: as the loop begins, after one more, and after all
-  pub legs-row-none : (n : ℕ) (ps xs : List ℕ) → 0 < length xs → set xs 0 n ≡ over (n ∷ names-words (map f (take 0 ps))) (set xs 0 n)
+  pub legs-row-none : (n : ℕ) (ps xs : List ℕ) → 0 < length xs →
+      set xs 0 n ≡ over (n ∷ names-words (map f (take 0 ps))) (set xs 0 n)
   unfolding names-words
   legs-row-none n ps [] h = absurd (omega arith)
   legs-row-none n ps (x ∷ xs) h = refl
@@ -76,7 +77,8 @@ module _ (f : ℕ → Leg) where
       at-next = omega (arith, length-push ws (m .run), at)
 
   pub legs-row-all : (ps xs out : List ℕ) (i : ℕ) → 0 < length xs → length ps ≤ i →
-      out ≡ over (length ps ∷ names-words (map f (take i ps))) (set xs 0 (length ps)) → out ≡ over (itinerary-words (map f ps)) xs
+      out ≡ over (length ps ∷ names-words (map f (take i ps))) (set xs 0 (length ps)) →
+      out ≡ over (itinerary-words (map f ps)) xs
   legs-row-all ps xs out i some past was =
       was
       ∙ ap (λ (l : List ℕ). over (length ps ∷ names-words (map f l)) (set xs 0 (length ps))) (take-all i ps past)
@@ -117,7 +119,8 @@ among-rest m x ms not (among-later i) = i
 
 pub among-skip : (ms : List Mark) (i : ℕ) (m d : Mark) → i < length ms → (getD ms i d ≡ m → ⊥) →
     (Among m ms → Among m (drop i ms)) → Among m ms → Among m (drop (i + 1) ms)
-among-skip ms i m d h not keep x = among-rest m (getD ms i d) (drop (i + 1) ms) not (subst (Among m) (drop-more ms i d h) (keep x))
+among-skip ms i m d h not keep x =
+    among-rest m (getD ms i d) (drop (i + 1) ms) not (subst (Among m) (drop-more ms i d h) (keep x))
 
 pub among-end : (ms : List Mark) (i : ℕ) (m : Mark) → length ms ≤ i → (Among m ms → Among m (drop i ms)) → Among m ms → ⊥
 among-end ms i m past keep x = none (subst (Among m) (drop-all i ms past) (keep x))

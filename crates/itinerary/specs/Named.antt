@@ -45,8 +45,8 @@ pub record Written (p : Plan) (q : Question) (m : Mark) (row : List ℕ) (n : �
 -- itinerary for the mark stands in the row.
 pub data Named (p : Plan) (a : Query) (m : Mark) (row : List ℕ) (r : Reply) (row₁ : List ℕ) : Type 0 where
   row-short : length row < itinerary-room → r ≡ Refused (ShortRow (length row)) → row₁ ≡ row → Named p a m row r row₁
-  not-told : itinerary-room ≤ length row → (marks : List Mark) → Answer p (a .most) (a .question) marks → (Among m marks → ⊥) →
-      r ≡ Refused (NoMark (m .boats)) → row₁ ≡ row → Named p a m row r row₁
+  not-told : itinerary-room ≤ length row → (marks : List Mark) → Answer p (a .most) (a .question) marks →
+      (Among m marks → ⊥) → r ≡ Refused (NoMark (m .boats)) → row₁ ≡ row → Named p a m row r row₁
   named : itinerary-room ≤ length row → (marks : List Mark) → Answer p (a .most) (a .question) marks → Among m marks →
       (n : ℕ) → Written p (a .question) m row n row₁ → r ≡ Done n → Named p a m row r row₁
 

@@ -65,7 +65,7 @@ fn is_prior(layout: Layout, level: &[u8], i: usize, x: usize) -> bool
 }
 
 // The last leg of the itinerary for the mark, if it has legs.
-pub fn find_last(layout: Layout, level: &[u8], q: Question, mark: Mark) -> Option<usize>
+pub(crate) fn find_last(layout: Layout, level: &[u8], q: Question, mark: Mark) -> Option<usize>
     requires laid { ⌜ Lies layout ⌝ }
     requires once { ⌜ Named-once (now (layout .legs)) ⌝ }
     requires levels { ⌜ length (now level) ≡ length (now (layout .legs)) ⌝ }
@@ -100,7 +100,7 @@ fn find_prior(layout: Layout, level: &[u8], i: usize) -> Option<usize>
 }
 
 // One leg back from the leg at `i`, or none where the journey begins with it: what has no more legs comes first.
-pub fn step_back(layout: Layout, level: &[u8], q: Question, i: usize) -> Option<usize>
+pub(crate) fn step_back(layout: Layout, level: &[u8], q: Question, i: usize) -> Option<usize>
     requires laid { ⌜ Lies layout ⌝ }
     requires once { ⌜ Named-once (now (layout .legs)) ⌝ }
     requires asked { ⌜ Asked (plan-of layout) q ⌝ }

@@ -141,7 +141,8 @@ fn journey_checked(
 // The itinerary for a mark of the answer to a question about a plan in lent memory, written into the lent row: how many
 // legs it has, and the run and the number of each. Where it is refused, the row is as it was.
 pub fn journey(plan: &[u64], question: &[u64], mark: Mark, out: &mut [u64]) -> Reply
-    ensures { λ r. ⌜ Journey-named (now (plan .entry)) (now (question .entry)) mark (now (out .entry)) r (now (out .exit)) ⌝ }
+    ensures { λ r. ⌜ Journey-named (now (plan .entry)) (now (question .entry)) mark (now (out .entry))
+        r (now (out .exit)) ⌝ }
 {
     let mut keys = [0u64; 1024];
     match check_in_order(plan, &mut keys) {

@@ -5,7 +5,7 @@ use plan::leg::Leg;
 
 // Of two legs with which two journeys end, the one that comes first: it leaves later, or at the same time and has the
 // smaller run, or number.
-pub fn before(a: Leg, b: Leg) -> bool
+pub(crate) fn before(a: Leg, b: Leg) -> bool
     ensures { λ r. ⌜ r ≡ before a b ⌝ }
 {
     a.leaves > b.leaves

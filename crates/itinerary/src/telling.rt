@@ -18,7 +18,7 @@ fn is_same(a: Mark, b: Mark) -> bool
     a.arrival == b.arrival && a.boats == b.boats
 }
 
-pub fn is_among(marks: &[Mark], mark: Mark) -> bool
+pub(crate) fn is_among(marks: &[Mark], mark: Mark) -> bool
     ensures { λ r. ⌜ Decides r (Among mark (now (marks .entry))) ⌝ }
 {
     for kept in marks {
@@ -30,7 +30,7 @@ pub fn is_among(marks: &[Mark], mark: Mark) -> bool
 }
 
 // Writes how many legs there are, and the run and the number of each; the rest of the row stays.
-pub fn name_legs(legs: &[Leg], places: &[u16], out: &mut [u64])
+pub(crate) fn name_legs(legs: &[Leg], places: &[u16], out: &mut [u64])
     requires places { ⌜ ((c : ℕ) → c < length (now places) → getD (now places) c 0 < length (now legs)) ⌝ }
     requires room { ⌜ 1 + 2 * length (now places) ≤ length (now out) ⌝ }
     ensures { λ _. ⌜ now (out .exit)

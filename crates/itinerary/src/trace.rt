@@ -19,7 +19,7 @@ use rounds::layout::Layout;
 // The search goes back from the last leg, and each time takes the leg that comes first: since the levels are exact, every
 // such choice can be completed. Each leg has a lower level than the next or stands before it, so none comes twice, and a
 // row with a place for each leg is long enough.
-pub fn trace(layout: Layout, level: &[u8], q: Question, mark: Mark, row: &mut [u16]) -> usize
+pub(crate) fn trace(layout: Layout, level: &[u8], q: Question, mark: Mark, row: &mut [u16]) -> usize
     requires laid { ⌜ Lies layout ⌝ }
     requires once { ⌜ Named-once (now (layout .legs)) ⌝ }
     requires few { ⌜ length (now (layout .legs)) ≤ 65536 ⌝ }

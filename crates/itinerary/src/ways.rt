@@ -33,7 +33,7 @@ fn walks_to(layout: Layout, from: u64, time: u64, to: u64, by: u64) -> bool
 }
 
 // One goes aboard of another boat, by a change or a walk.
-pub fn boards(layout: Layout, a: Leg, b: Leg) -> bool
+pub(crate) fn boards(layout: Layout, a: Leg, b: Leg) -> bool
     requires laid { ⌜ Lies layout ⌝ }
     requires leg { ⌜ LegWithin (piers (plan-of layout)) a ⌝ }
     ensures { λ r. ⌜ r ≡ boards (plan-of (layout .entry)) a b ⌝ }
@@ -43,7 +43,7 @@ pub fn boards(layout: Layout, a: Leg, b: Leg) -> bool
 }
 
 // A journey that answers the question can begin with the leg.
-pub fn begins(layout: Layout, q: Question, a: Leg) -> bool
+pub(crate) fn begins(layout: Layout, q: Question, a: Leg) -> bool
     requires laid { ⌜ Lies layout ⌝ }
     requires asked { ⌜ Asked (plan-of layout) q ⌝ }
     ensures { λ r. ⌜ r ≡ begins (plan-of (layout .entry)) (q .from) (q .time) a ⌝ }
@@ -52,7 +52,7 @@ pub fn begins(layout: Layout, q: Question, a: Leg) -> bool
 }
 
 // From where the leg comes one is at the pier at exactly that time: there, or by a walk.
-pub fn ends_at(layout: Layout, a: Leg, pier: u64, time: u64) -> bool
+pub(crate) fn ends_at(layout: Layout, a: Leg, pier: u64, time: u64) -> bool
     requires laid { ⌜ Lies layout ⌝ }
     requires leg { ⌜ LegWithin (piers (plan-of layout)) a ⌝ }
     ensures { λ r. ⌜ Decides r (Ends (plan-of (layout .entry)) pier (a .to) (a .comes) time) ⌝ }

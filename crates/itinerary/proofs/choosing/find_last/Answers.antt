@@ -10,12 +10,14 @@ use Rattle.itinerary.proofs.choosing.find_last.Needs as need
 use Rattle.itinerary.proofs.choosing.find_last.Needs.{then-is-final, else-is-final}
 
 pub loop-x-holds : need.loop-x-holds
-loop-x-holds c = chosen-none (plan-of (c .args .layout)) (Final (plan-of (c .args .layout)) (c .args .q) (c .args .level .now) (c .args .mark))
+loop-x-holds c = chosen-none (plan-of (c .args .layout))
+    (Final (plan-of (c .args .layout)) (c .args .q) (c .args .level .now) (c .args .mark))
 
 pub better-best-requires : need.better-best-requires
 better-best-requires c κs = record {
   within = c .loop-x-test .taken;
-  best = chosen-within (plan-of (c .args .layout)) (Final (plan-of (c .args .layout)) (c .args .q) (c .args .level .now) (c .args .mark)) (c .loop-x .x)
+  best = chosen-within (plan-of (c .args .layout))
+      (Final (plan-of (c .args .layout)) (c .args .q) (c .args .level .now) (c .args .mark)) (c .loop-x .x)
       (length (c .args .layout .legs .now)) (c .loop-x .best) (omega arith) (c .loop-x .inv);
 }
 
@@ -26,7 +28,8 @@ loop-x-again c =
     let x = c .loop-x .x in
     elim (c .if-is-final .came) [
       | then-is-final w ↦ subst (Chosen p Good (x + 1)) (sym (w .best-is ∙ w .better-best .ensures))
-          (chosen-take p Good (c .pre .once) x (c .loop-x .best) (c .loop-x-test .taken) (w .if-is-final .ensures tt .0 refl) (c .loop-x .inv))
+          (chosen-take p Good (c .pre .once) x (c .loop-x .best) (c .loop-x-test .taken)
+          (w .if-is-final .ensures tt .0 refl) (c .loop-x .inv))
       | else-is-final w ↦ subst (Chosen p Good (x + 1)) (sym (w .best-is))
           (chosen-skip p Good x (c .loop-x .best) (λ g. false≢true (w .if-is-final .ensures tt .1 g)) (c .loop-x .inv))
     ]
@@ -35,4 +38,5 @@ pub returns : need.returns
 returns c =
     let p = plan-of (c .args .layout) in
     let all : c .loop-x .x ≡ length (c .args .layout .legs .now) = omega arith in
-    subst (λ (n : ℕ). Chosen p (Final p (c .args .q) (c .args .level .now) (c .args .mark)) n (c .loop-x .best)) all (c .loop-x .inv)
+    subst (λ (n : ℕ). Chosen p (Final p (c .args .q) (c .args .level .now) (c .args .mark)) n (c .loop-x .best)) all
+    (c .loop-x .inv)

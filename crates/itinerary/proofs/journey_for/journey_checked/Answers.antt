@@ -5,5 +5,6 @@ use Rattle.itinerary.proofs.journey_for.journey_checked.Needs as need
 
 pub returns : need.returns
 returns c =
-    named-alike (plan-in (c .args .table .words .now)) (plan-of (c .lay-out-within .result)) (c .lay-out-within .ensures .alike) (c .args .question .now) (c .args .mark)
-    (c .args .out .now) (c .journey-opened .result) (c .journey-opened .last .out) (c .journey-opened .ensures)
+    named-alike (plan-in (c .args .table .words .now)) (plan-of (c .lay-out-within .result)) (c .lay-out-within .ensures .alike)
+    (c .args .question .now) (c .args .mark) (c .args .out .now) (c .journey-opened .result) (c .journey-opened .last .out)
+    (c .journey-opened .ensures)

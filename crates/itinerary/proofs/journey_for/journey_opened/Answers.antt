@@ -9,5 +9,6 @@ use Rattle.itinerary.proofs.journey_for.journey_opened.Needs as need
 pub returns-in-Ok : need.returns-in-Ok
 returns-in-Ok c =
     subst
-    (λ (o : Result Query Refusal). Named-by o (plan-of (c .args .layout)) (c .args .mark) (c .args .out .now) (c .name-journey .result) (c .name-journey .last .out))
+    (λ (o : Result Query Refusal). Named-by o (plan-of (c .args .layout)) (c .args .mark) (c .args .out .now)
+    (c .name-journey .result) (c .name-journey .last .out))
     (c .in-Ok .ensures tt) (c .name-journey .ensures)

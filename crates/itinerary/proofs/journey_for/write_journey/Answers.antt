@@ -9,10 +9,12 @@ name-legs-requires c κs =
     let row = c .trace-at .last .row in
     let at = c .trace-at .result in
     record {
-      places = places-rest (length (c .args .layout .legs .now)) row at (c .trace-at .ensures .within) (c .trace-at .ensures .places);
+      places = places-rest (length (c .args .layout .legs .now)) row at (c .trace-at .ensures .within)
+          (c .trace-at .ensures .places);
       room = omega (arith, ap length (rest-of row at), length-drop at row, c .trace-at .kept .row, c .pre .few .legs);
     }
 
 pub returns : need.returns
 returns c =
-    written-rest (c .trace-at .last .row) (c .trace-at .result) (c .args .out .now) (c .name-legs .last .out) (c .trace-at .ensures .itinerary) (c .name-legs .ensures)
+    written-rest (c .trace-at .last .row) (c .trace-at .result) (c .args .out .now) (c .name-legs .last .out)
+    (c .trace-at .ensures .itinerary) (c .name-legs .ensures)

@@ -8,4 +8,5 @@ use Rattle.itinerary.proofs.telling.name_legs.Given as given
 
 abbrev pub Inv-loop-j : given.InvT-loop-j
 Inv-loop-j l =
-    l .out ≡ over (length (l .places) ∷ names-words (map (λ i. getD (l .legs) i no-leg) (take (l .j) (l .places)))) (l .entry .out)
+    l .out ≡ over (length (l .places) ∷ names-words (map (λ i. getD (l .legs) i no-leg) (take (l .j) (l .places))))
+    (l .entry .out)

@@ -18,11 +18,16 @@ returns-then-a-w c =
     let is = c .walk-at-w .ensures in
     let m = c .walks .inv in
     let to = ap (λ (z : Walk). z .to) is in
-    let takes = ap (λ (z : Walk). z .takes) is in
-    (λ _. found-ends {p = plan-of (c .args .layout)} v (omega (arith, m .here .within)) (m .here .from v here) (omega arith, omega arith), λ _. refl)
+    let takes = ap (λ (z : Walk). z .takes) is in (
+      λ _. found-ends {p = plan-of (c .args .layout)} v (omega (arith, m .here .within)) (m .here .from v here)
+          (omega arith, omega arith),
+      λ _. refl,
+    )
 
 pub returns : need.returns
 returns c =
     let not = λ (same : (c .args .a .to ≡ c .args .pier) × (c .args .a .comes ≡ c .args .time)).
-    ⊎-elim (λ w. w .1 (same .1)) (λ w. w (same .0)) (c .else-a-pier .either) in
-    (λ e. absurd (false≢true e), λ e. absurd (missed-ends {p = plan-of (c .args .layout)} (omega arith) not (c .walks .inv) e))
+    ⊎-elim (λ w. w .1 (same .1)) (λ w. w (same .0)) (c .else-a-pier .either) in (
+      λ e. absurd (false≢true e),
+      λ e. absurd (missed-ends {p = plan-of (c .args .layout)} (omega arith) not (c .walks .inv) e),
+    )

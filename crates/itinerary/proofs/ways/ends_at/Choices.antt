@@ -4,7 +4,8 @@ use Rattle.itinerary.proofs.ways.ends_at.Given as given
 
 abbrev pub Inv-walks : given.InvT-walks
 Inv-walks l =
-    Missed (plan-of (l .layout) .walks) (There-at (plan-of (l .layout) .walks) (l .a .comes) (l .pier) (l .time)) (l .a .to) (l .at)
+    Missed (plan-of (l .layout) .walks) (There-at (plan-of (l .layout) .walks) (l .a .comes) (l .pier) (l .time))
+    (l .a .to) (l .at)
 
 abbrev pub μ-walks : given.MeasureT-walks
 μ-walks l = l .at

@@ -12,7 +12,8 @@ returns-then-leads c =
     let v : ℕ = c .walks .at - 1 in
     let ws = plan-of (c .args .layout) .walks in
     let is = ap (λ (w : Walk). leads w (c .args .from) (c .args .time) (c .args .to) (c .args .by)) (c .walk-at .ensures) in
-    let lead : Leads ws (c .args .from) (c .args .time) (c .args .to) (c .args .by) v = sym is ∙ sym (c .if-leads .ensures tt) in
+    let lead : Leads ws (c .args .from) (c .args .time) (c .args .to) (c .args .by) v =
+    sym is ∙ sym (c .if-leads .ensures tt) in
     sym (found-walks ws _ _ _ _ v (omega (arith, c .walks .inv .here .within)) lead)
 
 pub returns : need.returns
