@@ -1,4 +1,6 @@
 // Checks journeys against a plan: for each the mark that it reaches, or where it breaks.
+#![tactic(auto)]
+
 ghost use Rattle.std.specs.Prelude.{◌≡◌, true};
 ghost use Rattle.plan.specs.Check.{sound_words};
 ghost use Rattle.plan.specs.Words.{Whole};

@@ -1,4 +1,6 @@
 // Trials: the proved answers and itineraries beside those that trying all journeys gives, on random small plans.
+#![tactic(auto)]
+
 mod chance;
 mod making;
 mod small;

@@ -15,7 +15,7 @@ use Rattle.updates.proofs.StillUsable.{usable_after}
 use Rattle.serving.specs.declared.request.Request.{Request}
 use Rattle.serving.specs.declared.request.Request.TheVariants.{Ask, Apply, Look}
 use Rattle.serving.specs.declared.response.Response.{Response}
-use Rattle.serving.specs.Runs.{day, done, if-done, plan_at, Right, Served}
+use Rattle.serving.specs.Runs.{day, done, if_done, plan_at, Right, Served}
 use Rattle.laws.specs.RunLaws.{AnsweredEachDay, UsableAtEachMoment, RunsInTwo}
 use Rattle.laws.proofs.AllMarks.{always_answered}
 use Rattle.laws.proofs.OneAnswer.{one_answer_of_plans}
@@ -41,7 +41,7 @@ good_after p u g e =
     subst Good then (v.few, v.sound)
 
 good_if_done : (o : Result Unit Refusal) (p : Plan) (u : Update) (us vs : List Update) →
-    (o ≡ Ok tt → Good (day (after p u) us)) → Good (day p vs) → Good (day p (if-done o (u ∷ us) vs))
+    (o ≡ Ok tt → Good (day (after p u) us)) → Good (day p vs) → Good (day p (if_done o (u ∷ us) vs))
 unfolding day
 good_if_done (Ok tt) p u us vs f g = f refl
 good_if_done (Err e) p u us vs f g = g
@@ -61,7 +61,7 @@ usable_at_each_moment p rs i f s = good_done p (take i rs) (f, s)
 go_on_if_done : (o : Result Unit Refusal) (p : Plan) (u : Update) (more : List Request) (us us₁ vs vs₁ : List Update) →
     day (after p u) us₁ ≡ day (day (after p u) us) (done (day (after p u) us) more) →
     day p vs₁ ≡ day (day p vs) (done (day p vs) more) →
-    day p (if-done o (u ∷ us₁) vs₁) ≡ day (day p (if-done o (u ∷ us) vs)) (done (day p (if-done o (u ∷ us) vs)) more)
+    day p (if_done o (u ∷ us₁) vs₁) ≡ day (day p (if_done o (u ∷ us) vs)) (done (day p (if_done o (u ∷ us) vs)) more)
 unfolding day
 go_on_if_done (Ok _) p u more us us₁ vs vs₁ e f = e
 go_on_if_done (Err _) p u more us us₁ vs vs₁ e f = f

@@ -1,4 +1,6 @@
 // Marks and fronts on examples: the order on a grid, which marks a front takes, rows of several lengths, and the texts.
+#![tactic(auto)]
+
 #[cfg(test)]
 mod tests {
     use marks::front::Front;

@@ -1,4 +1,6 @@
 // The office: opens the plan that a file begins with, and does the requests behind it.
+#![tactic(auto)]
+
 mod day;
 mod kind;
 mod reading;

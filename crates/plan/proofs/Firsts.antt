@@ -58,15 +58,15 @@ first_not_hit f e i (suc n) h p q = elim (cases_eq i n) [
 ]
 
 -- nothing fails exactly if the test holds of all
-then-cond : (r : Result Unit Refusal) (b : Bool) (x : Refusal) → is_ok {T = Unit {0}} {E = Refusal} (then r (λ _. cond b (Ok tt) (Err x))) ≡ is_ok r && b
-then-cond (Ok u) true x = refl
-then-cond (Ok u) false x = refl
-then-cond (Err e) b x = refl
+then_cond : (r : Result Unit Refusal) (b : Bool) (x : Refusal) → is_ok {T = Unit {0}} {E = Refusal} (then r (λ _. cond b (Ok tt) (Err x))) ≡ is_ok r && b
+then_cond (Ok u) true x = refl
+then_cond (Ok u) false x = refl
+then_cond (Err e) b x = refl
 
 pub first_not_ok : (f : ℕ → Bool) (e : ℕ → Refusal) (n : ℕ) → is_ok (first_not f e n) ≡ all_below f n
 unfolding first_not all_below
 first_not_ok f e zero = refl
-first_not_ok f e (suc n) = then-cond (first_not f e n) (f n) (e n) ∙ ap (λ b. b && f n) (first_not_ok f e n)
+first_not_ok f e (suc n) = then_cond (first_not f e n) (f n) (e n) ∙ ap (λ b. b && f n) (first_not_ok f e n)
 
 pub first_not_all : (f : ℕ → Bool) (e : ℕ → Refusal) (n : ℕ) → all_below f n ≡ true → first_not f e n ≡ Ok tt
 unfolding first_not all_below

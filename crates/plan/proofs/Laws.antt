@@ -115,10 +115,10 @@ counts_few xs h = (grind (arith, nat_tests), grind (arith, nat_tests), grind (ar
 few_counts : (xs : List ℕ) → 3 ≤ length xs → Whole xs → get_or xs 0 0 ≤ 64 → get_or xs 1 0 ≤ 1024 → get_or xs 2 0 ≤ 256 → is_ok (counts_checked xs) ≡ true
 few_counts xs a b c d e = grind (arith, nat_tests)
 
-then-ok-counts : (a : Result Counts Refusal) (b : Result Unit Refusal) → is_ok {T = Counts} {E = Refusal} (then a (λ c. then b (λ _. Ok c))) ≡ is_ok a && is_ok b
-then-ok-counts (Ok c) (Ok u) = refl
-then-ok-counts (Ok c) (Err e) = refl
-then-ok-counts (Err e) b = refl
+then_ok_counts : (a : Result Counts Refusal) (b : Result Unit Refusal) → is_ok {T = Counts} {E = Refusal} (then a (λ c. then b (λ _. Ok c))) ≡ is_ok a && is_ok b
+then_ok_counts (Ok c) (Ok u) = refl
+then_ok_counts (Ok c) (Err e) = refl
+then_ok_counts (Err e) b = refl
 
 pub whole_few : (xs : List ℕ) → is_ok (counts_checked xs) ≡ true → Whole xs × Few (plan_in xs)
 whole_few xs h =
@@ -146,7 +146,7 @@ counted xs c h =
 pub usable : (xs : List ℕ) → is_ok (plan_checked xs) ≡ true → Usable xs
 unfolding plan_checked
 usable xs h =
-    let both = and_parts _ _ (sym (then-ok-counts (counts_checked xs) (parts_checked (plan_in xs))) ∙ h) in
+    let both = and_parts _ _ (sym (then_ok_counts (counts_checked xs) (parts_checked (plan_in xs))) ∙ h) in
     let w = whole_few xs both.0 in
     record { long = (counts_few xs both.0).0; whole = w.0; few = w.1; sound = sound_from_checked (plan_in xs) both.1 }
 
@@ -157,7 +157,7 @@ not_refused xs u =
     let b = count_legs xs in
     let c = count_walks xs in
     let f = u.few in
-    then-ok-counts (counts_checked xs) (parts_checked (plan_in xs))
+    then_ok_counts (counts_checked xs) (parts_checked (plan_in xs))
     ∙ and_from _ _ (few_counts xs u.long u.whole (omega (arith, f.piers)) (omega (arith, f.legs)) (omega (arith, f.walks))) (checked_from_sound (plan_in xs) u.sound)
 
 -- every leg of a plan that is not refused has a key
@@ -165,7 +165,7 @@ pub checked_fit : (xs : List ℕ) → is_ok (plan_checked xs) ≡ true → is_ok
 unfolding plan_checked
 checked_fit xs h =
     let p = plan_in xs in
-    let both = and_parts _ _ (sym (then-ok-counts (counts_checked xs) (parts_checked p)) ∙ h) in
+    let both = and_parts _ _ (sym (then_ok_counts (counts_checked xs) (parts_checked p)) ∙ h) in
     let legs = (and_parts (all_below (leg_ok p) (length p.legs)) (all_below (walk_ok p) (length p.walks) && all_below (change_ok p) (piers p))
     (sym (parts_ok p) ∙ both.1)).0 in
     and_from _ _ both.0 (all_below_from (fits p) (length p.legs) (λ i l. (leg_is p legs i l).0))
@@ -173,7 +173,7 @@ checked_fit xs h =
 pub opens : (xs : List ℕ) → is_ok (plan_checked xs) ≡ true → sound_words xs ≡ true
 unfolding sound_words plan_checked
 opens xs h =
-    let both = and_parts _ _ (sym (then-ok-counts (counts_checked xs) (parts_checked (plan_in xs))) ∙ h) in
+    let both = and_parts _ _ (sym (then_ok_counts (counts_checked xs) (parts_checked (plan_in xs))) ∙ h) in
     let w : Whole xs = (counts_few xs both.0).1 in
     and_from _ _ (grind (arith, nat_tests)) both.1
 

@@ -1,4 +1,6 @@
 // The plan in lent memory: legs, walks and changes, the check of it, and the checked plan.
+#![tactic(auto)]
+
 pub mod checking;
 pub mod counts;
 pub mod leg;

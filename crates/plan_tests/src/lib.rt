@@ -1,4 +1,6 @@
 // Good and damaged plans, with the refusal and the place of each.
+#![tactic(auto)]
+
 #[cfg(test)]
 mod tests {
     use plan::checking::check as check_plan;

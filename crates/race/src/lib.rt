@@ -1,4 +1,6 @@
 // The answer as functions that other languages call, for the race with plain Rust.
+#![tactic(auto)]
+
 ghost use Rattle.std.specs.Prelude.{◌≡◌, ◌/◌, length};
 ghost use Rattle.plan.specs.Sound.{Few};
 ghost use Rattle.plan.specs.Words.{plan_in};

@@ -75,7 +75,7 @@ module _ {ws : List Walk} {n : ℕ} {first link : List ℕ} (ls : Links ws n fir
         (λ y. inr (record {
           place = v;
           within = chain_inside (walk_from ws) (chains_of ls) v here (chain_at ok);
-          from = ok.of v here;
+          from = ok.from v here;
           to = sym (ap (λ (z : Walk). z.to) is) ∙ to;
           is = b ∙ y;
         }))

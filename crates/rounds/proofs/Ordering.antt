@@ -1,10 +1,9 @@
 -- The keys of a plan's legs in order: the leg that each was made for, and that they lay the legs out.
 use Rattle.std.proofs.Common.{◌≡◌, ℕ, ◌+◌, ◌<◌, ◌≤◌, cond, eqb, List, [], ◌∷◌, length, get_or, set, sym, refl, ap, ◌∙◌, inl, inr, arith}
 use Rattle.std.specs.List.{swap}
-use Rattle.std.proofs.slice.Lists.{exchanged-is}
 use Rattle.std.proofs.lemmas.Nat.{mod-mul-add}
 use Rattle.std.proofs.ByRecursion.{has_get_or, has_shuffled}
-use Rattle.std.proofs.lemmas.List.{length-set, get_or-set_same, get_or-set_other}
+use Rattle.std.proofs.lemmas.List.{length-set, get_or_default, get_or-set_same, get_or-set_other}
 use Rattle.std.proofs.lemmas.List.Sorted.{IsPermutation-keeps, IsPermutation-sym, length_permutation}
 use Rattle.std.proofs.lemmas.Bool.{cases_eq, cases_order, eq-eqb, ne_eqb, cond-true, cond-false}
 use Rattle.std.proofs.lemmas.Bool.Decides.{nat_tests}
@@ -23,6 +22,13 @@ length_exchanged : (l : List ℕ) (a b : ℕ) → length (swap l a b) ≡ length
 length_exchanged [] a b = refl
 length_exchanged (x ∷ xs) a b = length-set _ b _ ∙ length-set (x ∷ xs) a _
 
+exchanged_is : (l : List ℕ) (a b : ℕ) → a < length l → b < length l → set (set l a (get_or l b 0)) b (get_or l a 0) ≡ swap l a b
+exchanged_is [] a b p q = refl
+exchanged_is (x ∷ xs) a b p q =
+    let u = get_or_default (x ∷ xs) b 0 x q in
+    let v = get_or_default (x ∷ xs) a 0 x p in
+    λ i. set (set (x ∷ xs) a (u i)) b (v i)
+
 -- where the number at the place k stood before a and b were exchanged
 abbrev other : ℕ → ℕ → ℕ → ℕ
 other a b k = cond (eqb k a) b (cond (eqb k b) a k)
@@ -30,7 +36,7 @@ other a b k = cond (eqb k a) b (cond (eqb k b) a k)
 module _ (l : List ℕ) (a b : ℕ) (p : a < length l) (q : b < length l) where
   from : (k : ℕ) → get_or (swap l a b) k 0 ≡ get_or l (other a b k) 0
   from k =
-      let e : swap l a b ≡ set (set l a (get_or l b 0)) b (get_or l a 0) = sym (exchanged-is l a b 0 p q) in
+      let e : swap l a b ≡ set (set l a (get_or l b 0)) b (get_or l a 0) = sym (exchanged_is l a b p q) in
       let len = length-set l a (get_or l b 0) in
       elim (cases_eq k b) [
         | inl kb ↦

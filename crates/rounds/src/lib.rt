@@ -1,4 +1,6 @@
 // The rounds: the answer to a question, with one boat, with one more, until so many.
+#![tactic(auto)]
+
 pub mod answer;
 pub mod asking;
 pub mod layout;

@@ -1,4 +1,6 @@
 // Answers worked out by hand: the four piers, and plans on which a careless program answers wrongly.
+#![tactic(auto)]
+
 #[cfg(test)]
 mod tests {
     use rounds::answer::answer;

@@ -10,12 +10,12 @@ use Rattle.updates.specs.Updates.{after, update_checked}
 use Rattle.serving.specs.declared.request.Request.{Request}
 use Rattle.serving.specs.declared.request.Request.TheVariants.{Ask, Apply, Look}
 use Rattle.serving.specs.declared.response.Response.{Response}
-use Rattle.serving.specs.Runs.{day, done, if-done, plan_at, plan_next, Moment, Right, Served}
+use Rattle.serving.specs.Runs.{day, done, if_done, plan_at, plan_next, Moment, Right, Served}
 
 -- ---- the plan after one request more
 
 done_with : (o : Result Unit Refusal) (p : Plan) (u : Update) →
-    day p (if-done o (u ∷ []) []) ≡ if-done o (after p u) p
+    day p (if_done o (u ∷ []) []) ≡ if_done o (after p u) p
 unfolding day
 done_with (Ok _) p u = refl
 done_with (Err e) p u = refl
@@ -23,7 +23,7 @@ done_with (Err e) p u = refl
 -- an update at the front: the rest goes on from the plan that it leaves
 done_first : (o : Result Unit Refusal) (p : Plan) (u : Update) (r : Request) (us us₁ vs vs₁ : List Update) →
     day (after p u) us₁ ≡ plan_next (day (after p u) us) r → day p vs₁ ≡ plan_next (day p vs) r →
-    day p (if-done o (u ∷ us₁) vs₁) ≡ plan_next (day p (if-done o (u ∷ us) vs)) r
+    day p (if_done o (u ∷ us₁) vs₁) ≡ plan_next (day p (if_done o (u ∷ us) vs)) r
 unfolding day
 done_first (Ok _) p u r us us₁ vs vs₁ e f = e
 done_first (Err _) p u r us us₁ vs vs₁ e f = f

@@ -10,7 +10,7 @@ use Rattle.plan.proofs.ReadBack.{length_words, read_written}
 use Rattle.updates.specs.declared.update.Update.{Update}
 use Rattle.updates.specs.Updates.{after, update_checked, fits_checked, left_by, Applied}
 use Rattle.updates.proofs.StillUsable.{usable_after}
-use Rattle.serving.specs.Runs.{if-done}
+use Rattle.serving.specs.Runs.{if_done}
 
 few_fits : (p : Plan) → Few p → length (words p) ≤ 6979
 few_fits p f = omega (arith, length_words p, f.piers, f.legs, f.walks)
@@ -33,9 +33,9 @@ module _ (xs : List ℕ) (u : Update) (h : Usable xs) (long : length xs ≡ 6979
   applied_says a = a.result ∙ fits_always
 
   pub applied_plan : {r : Result Unit Refusal} {ys : List ℕ} → Applied xs u r ys →
-      plan_in ys ≡ if-done r (after (plan_in xs) u) (plan_in xs)
+      plan_in ys ≡ if_done r (after (plan_in xs) u) (plan_in xs)
   applied_plan {r} {ys} a = ap plan_in a.memory ∙ by r
     where
-      by : (o : Result Unit Refusal) → plan_in (left_by o xs u) ≡ if-done o (after (plan_in xs) u) (plan_in xs)
+      by : (o : Result Unit Refusal) → plan_in (left_by o xs u) ≡ if_done o (after (plan_in xs) u) (plan_in xs)
       by (Ok _) = read_written (after (plan_in xs) u) xs
       by (Err e) = refl

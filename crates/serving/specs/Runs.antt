@@ -23,16 +23,16 @@ day p [] = p
 day p (u ∷ us) = day (after p u) us
 
 -- an update comes before others if it is done, and counts for nothing if it is refused
-abbrev pub if-done : {A : Type 0} → Result Unit Refusal → A → A → A
-if-done (Ok _) x y = x
-if-done (Err e) x y = y
+abbrev pub if_done : {A : Type 0} → Result Unit Refusal → A → A → A
+if_done (Ok _) x y = x
+if_done (Err e) x y = y
 
 -- the updates among requests that are done, from a plan on
 unfoldable pub done : Plan → List Request → List Update
 done p [] = []
 done p (Ask qs ∷ rs) = done p rs
 done p (Look gs ∷ rs) = done p rs
-done p (Apply u ∷ rs) = if-done (update_checked p u) (u ∷ done (after p u) rs) (done p rs)
+done p (Apply u ∷ rs) = if_done (update_checked p u) (u ∷ done (after p u) rs) (done p rs)
 
 -- the plan as it is when the request at a place comes: the first plan after the updates before it that were done
 abbrev pub plan_at : Plan → List Request → ℕ → Plan
@@ -48,7 +48,7 @@ pub record Moment (p : Plan) (requests : List Request) (p₁ : Plan) : Type 0 wh
 abbrev pub plan_next : Plan → Request → Plan
 plan_next p (Ask qs) = p
 plan_next p (Look gs) = p
-plan_next p (Apply u) = if-done (update_checked p u) (after p u) p
+plan_next p (Apply u) = if_done (update_checked p u) (after p u) p
 
 -- ---- what is right to say
 

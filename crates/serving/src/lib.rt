@@ -1,4 +1,6 @@
 // The office that keeps a plan: questions, updates and itineraries that were given, one after the other.
+#![tactic(auto)]
+
 mod answering;
 mod indexing;
 pub mod office;

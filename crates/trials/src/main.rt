@@ -1,4 +1,6 @@
 // Trials: the proved answers beside the answers that trying all journeys gives, on random small plans.
+#![tactic(auto)]
+
 mod chance;
 mod making;
 mod small;

@@ -13,9 +13,9 @@ loop-i-preserved c =
     elim c.if-i-out.branch [
       | then-i-out w ↦
           subst (λ row. AnsweredTo p qs out row (i + 1)) (sym w.out-is)
-          (to_more {p = p} {qs = qs} {out = out} c.loop-i.out w.answer-opened.new.out i w.answer-opened.result
-          (omega (arith, w.if-i-out.true)) (omega arith) (omega (arith, w.answer-opened.auto.out))
-          w.answer-opened.ensures c.loop-i.invariant)
+          (to_more {p = p} {qs = qs} {out = out} c.loop-i.out w.answer_opened.new.out i w.answer_opened.result
+          (omega (arith, w.if-i-out.true)) (omega arith) (omega (arith, w.answer_opened.auto.out))
+          w.answer_opened.ensures c.loop-i.invariant)
       | else-i-out w ↦
           subst (λ row. AnsweredTo p qs out row (i + 1)) (sym w.out-is)
           (to_skip {p = p} {qs = qs} {out = out} i (λ room. omega (arith, w.if-i-out.false)) c.loop-i.invariant)

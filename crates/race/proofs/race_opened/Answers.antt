@@ -8,6 +8,6 @@ returns-in-Ok c =
     let xs = c.args.plan.now in
     let qs = c.args.questions.now in
     let out = c.args.out.now in
-    let out₁ = c.answer-each-checked.new.out in
-    let each = subst (λ (ys : List ℕ). EachAnswered (plan_in ys) qs out out₁ (length qs / 4)) c.of-table.ensures c.answer-each-checked.ensures in
+    let out₁ = c.answer_each_checked.new.out in
+    let each = subst (λ (ys : List ℕ). EachAnswered (plan_in ys) qs out out₁ (length qs / 4)) c.of-table.ensures c.answer_each_checked.ensures in
     subst (λ o. Raced o (plan_in xs) qs out 0 out₁) c.in-Ok.ensures.value (refl, each)

@@ -3,7 +3,7 @@ ghost use Rattle.std.specs.Prelude.{◌≡◌};
 ghost use Rattle.updates.specs.Updates.{after, update_checked};
 ghost use Rattle.serving.specs.declared.response.Response.TheVariants.{Updated};
 ghost use Rattle.serving.specs.Offices.{plan_kept, KeptIn};
-ghost use Rattle.serving.specs.Runs.{if-done, update_response};
+ghost use Rattle.serving.specs.Runs.{if_done, update_response};
 
 use crate::office::Office;
 use crate::response::Response;
@@ -25,7 +25,7 @@ impl Office {
     pub fn apply(&mut self, update: Update) -> Response
         requires kept { KeptIn self.old }
         ensures says { result ≡ update_response (update_checked (plan_kept self.old) update) }
-        ensures plan { plan_kept self.new ≡ if-done (update_checked (plan_kept self.old) update)
+        ensures plan { plan_kept self.new ≡ if_done (update_checked (plan_kept self.old) update)
             (after (plan_kept self.old) update) (plan_kept self.old) }
         ensures kept { KeptIn self.new }
     {

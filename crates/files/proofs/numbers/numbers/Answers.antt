@@ -7,6 +7,6 @@ loop-i-init c = c.new-all.ensures.items ∙ sym (numbers_none _)
 
 pub loop-i-preserved : goal.loop-i-preserved
 loop-i-preserved c =
-    c.in-ok-push.ensures.items
-    ∙ (λ j. c.loop-i.invariant j ++ c.number-at.ensures.value j ∷ [])
+    c.in_ok-push.ensures.items
+    ∙ (λ j. c.loop-i.invariant j ++ c.number_at.ensures.value j ∷ [])
     ∙ sym (numbers_more c.loop-i.i c.args.bytes.now)

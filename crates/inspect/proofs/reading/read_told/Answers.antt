@@ -7,9 +7,9 @@ use Rattle.inspect.proofs.reading.read_told.Goals as goal
 pub returns : goal.returns
 returns c = record {
   whole = grind (arith, nat_tests);
-  from = c.number-at.ensures.value;
-  time = c.number-at-2.ensures.value;
-  to = c.number-at-3.ensures.value;
-  legs = c.in-ok-legs.ensures ∙ (λ i. names_in (c.number-at-count.ensures.value i) (take_rest c.args.bytes.now 16 i));
-  in_time = c.number-at-2.ensures.bound;
+  from = c.number_at.ensures.value;
+  time = c.number_at-2.ensures.value;
+  to = c.number_at-3.ensures.value;
+  legs = c.in_ok-legs.ensures ∙ (λ i. names_in (c.number_at-count.ensures.value i) (take_rest c.args.bytes.now 16 i));
+  in_time = c.number_at-2.ensures.bound;
 }

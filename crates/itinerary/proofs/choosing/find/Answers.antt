@@ -12,12 +12,12 @@ walks-preserved c =
     let v : ℕ = c.walks.at - 1 in
     let next : suc v ≡ c.walks.at = omega arith in
     let level = c.args.level.now in
-    let found = c.find-at-found.result in
-    let from = ap (λ (w : Walk). w.from) c.walk-at-from.ensures in
+    let found = c.find_at-found.result in
+    let from = ap (λ (w : Walk). w.from) c.walk_at-from.ensures in
     let there = subst (λ z. Chosen p (FitsAt p level c.args.sought z) (length p.legs) found) from
-    c.find-at-found.ensures in
+    c.find_at-found.ensures in
     subst (Searched p level c.args.sought (get_or c.args.arrivals.walks.prior.now v 0))
-    (sym c.first-of-best.ensures)
+    (sym c.first_of-best.ensures)
     (searched_more c.requires.arriving.walks.chains c.requires.once v next c.walks.best found c.walks.invariant there)
 
 pub returns : goal.returns

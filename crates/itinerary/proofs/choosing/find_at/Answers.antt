@@ -13,7 +13,7 @@ legs-preserved c =
     let Now : Option ℕ → Type 0 = Looked (plan_of c.args.layout) c.args.level.now c.args.sought
     c.args.pier (get_or c.args.arrivals.legs.prior.now v 0) in
     elim c.if-fits.branch [
-      | then-fits w ↦ subst Now (sym (w.best-is ∙ w.first-of-best.ensures))
+      | then-fits w ↦ subst Now (sym (w.best-is ∙ w.first_of-best.ensures))
           (looked_take cs v next c.legs.invariant c.requires.once (w.if-fits.ensures.0 refl))
       | else-fits w ↦ subst Now (sym w.best-is)
           (looked_skip cs v next c.legs.invariant (λ g. false≢true (w.if-fits.ensures.1 g)))

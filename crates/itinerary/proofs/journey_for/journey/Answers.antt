@@ -5,17 +5,17 @@ use Rattle.plan.specs.Sound.{Usable}
 use Rattle.journey.proofs.Naming.{sound_once}
 use Rattle.itinerary.proofs.journey_for.journey.Goals as goal
 
-pub slice-bounds-journey-checked-end : goal.slice-bounds-journey-checked-end
-slice-bounds-journey-checked-end c =
+pub slice_bounds-journey_checked-end : goal.slice_bounds-journey_checked-end
+slice_bounds-journey_checked-end c =
     let u : Usable c.of-table.result.words.now = subst Usable (sym c.of-table.ensures)
     (c.in-Ok.ensures.usable refl) in
     let l : c.legs-legs.result ≤ 1024 = omega (arith, u.few.legs) in
     search rules
 
-pub journey-checked-requires : goal.journey-checked-requires
-journey-checked-requires c =
+pub journey_checked-requires : goal.journey_checked-requires
+journey_checked-requires c =
     let xs = c.of-table.result.words.now in
-    let keys = c.check-in-order.new.keys in
+    let keys = c.check_in_order.new.keys in
     let e = sym c.of-table.ensures in
     let u : Usable xs = subst Usable e (c.in-Ok.ensures.usable refl) in
     let o = subst (λ (ys : List ℕ). Ordered (plan_in ys) (take (length (plan_in ys).legs) keys)) e

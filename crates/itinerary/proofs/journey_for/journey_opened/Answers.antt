@@ -9,5 +9,5 @@ pub returns-in-Ok : goal.returns-in-Ok
 returns-in-Ok c =
     subst
     (λ (o : Result Query Refusal). NamedBy o (plan_of c.args.layout) c.args.mark c.args.out.now
-    c.name-journey.result c.name-journey.new.out)
-    c.in-Ok.ensures c.name-journey.ensures
+    c.name_journey.result c.name_journey.new.out)
+    c.in-Ok.ensures c.name_journey.ensures

@@ -2,8 +2,8 @@ use Rattle.std.proofs.Common.{length, ap, arith, length-drop}
 use Rattle.itinerary.proofs.Writing.{rest_of, places_rest, written_rest}
 use Rattle.itinerary.proofs.journey_for.write_journey_by.Goals as goal
 
-pub name-legs-requires : goal.name-legs-requires
-name-legs-requires c =
+pub name_legs-requires : goal.name_legs-requires
+name_legs-requires c =
     let row = c.trace-at.new.row in
     let at = c.trace-at.result in
     record {
@@ -14,5 +14,5 @@ name-legs-requires c =
 
 pub returns : goal.returns
 returns c =
-    written_rest c.trace-at.new.row c.trace-at.result c.args.out.now c.name-legs.new.out
-    c.trace-at.ensures.itinerary c.name-legs.ensures
+    written_rest c.trace-at.new.row c.trace-at.result c.args.out.now c.name_legs.new.out
+    c.trace-at.ensures.itinerary c.name_legs.ensures

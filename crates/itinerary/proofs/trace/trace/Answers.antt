@@ -13,20 +13,20 @@ back-init c =
       traced_last (length row) row refl c.requires.room,
     )
 
-pub overflow-sub-at : goal.overflow-sub-at
-overflow-sub-at c =
+pub overflow_sub-at : goal.overflow_sub-at
+overflow_sub-at c =
     let g = going_at c.back.invariant.2 c.requires.marked c.find-next.ensures c.in-Some.is in
     omega (arith, g.space)
 
-pub overflow-cast-row : goal.overflow-cast-row
-overflow-cast-row c =
+pub overflow_cast-row : goal.overflow_cast-row
+overflow_cast-row c =
     let g = going_at c.back.invariant.2 c.requires.marked c.find-next.ensures c.in-Some.is in
     let h = g.within in
     let few = c.requires.few in
     search rules
 
-pub offset-bounds-row-at : goal.offset-bounds-row-at
-offset-bounds-row-at c =
+pub offset_bounds-row-at : goal.offset_bounds-row-at
+offset_bounds-row-at c =
     let g = going_at c.back.invariant.2 c.requires.marked c.find-next.ensures c.in-Some.is in
     let h = g.space in
     search rules
@@ -37,21 +37,21 @@ bounds-row-at c =
     let h = g.space in
     search rules
 
-pub step-back-next-requires : goal.step-back-next-requires
-step-back-next-requires c =
+pub step_back-next-requires : goal.step_back-next-requires
+step_back-next-requires c =
     let g = going_at c.back.invariant.2 c.requires.marked c.find-next.ensures c.in-Some.is in
     let h = g.within in
     search rules
 
-pub back_smaller : goal.back_smaller
-back_smaller c =
+pub back-smaller : goal.back-smaller
+back-smaller c =
     let n = length c.args.layout.legs.now in
     let level = c.args.level.now in
     let legs = legs_from (plan_of c.args.layout) c.back.at c.back.row in
     let g = going_at c.back.invariant.2 c.requires.marked c.find-next.ensures c.in-Some.is in
     let less = to_come_less c.requires.marked c.requires.laid.in_runs c.in-Some.i c.back.at legs g
-    c.step-back-next.result c.step-back-next.ensures in
-    subst (λ (o : Option ℕ). to_come level n c.step-back-next.result < to_come level n o) (sym c.in-Some.is) less
+    c.step_back-next.result c.step_back-next.ensures in
+    subst (λ (o : Option ℕ). to_come level n c.step_back-next.result < to_come level n o) (sym c.in-Some.is) less
 
 pub back-preserved : goal.back-preserved
 back-preserved c =
@@ -63,14 +63,14 @@ back-preserved c =
       simp length-set (omega arith),
       places_put (length c.args.layout.legs.now) row at (at - 1) i one c.back.invariant.0 g.within
           c.back.invariant.1,
-      traced_back row at (at - 1) i c.back.next c.step-back-next.result one c.back.invariant.0
+      traced_back row at (at - 1) i c.back.next c.step_back-next.result one c.back.invariant.0
           c.requires.laid.in_runs
-          c.in-Some.is c.back.invariant.2 c.step-back-next.ensures,
+          c.in-Some.is c.back.invariant.2 c.step_back-next.ensures,
     )
 
 pub returns : goal.returns
 returns c = record {
   within = c.back.invariant.0;
   places = c.back.invariant.1;
-  itinerary = traced_all c.back.invariant.2 c.requires.marked c.find-next.ensures c.in-default.is;
+  itinerary = traced_all c.back.invariant.2 c.requires.marked c.find-next.ensures c.in_default.is;
 }

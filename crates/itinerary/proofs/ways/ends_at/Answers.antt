@@ -12,11 +12,11 @@ pub returns-then-a-w : goal.returns-then-a-w
 returns-then-a-w c =
     let v : ℕ = c.walks.at - 1 in
     let here : suc v ≡ c.walks.at = omega arith in
-    let is = c.walk-at-w.ensures in
+    let is = c.walk_at-w.ensures in
     let m = c.walks.invariant in
     let to = ap (λ (z : Walk). z.to) is in
     let takes = ap (λ (z : Walk). z.takes) is in (
-      λ _. found_ends {p = plan_of c.args.layout} v (omega (arith, m.here.within)) (m.here.of v here)
+      λ _. found_ends {p = plan_of c.args.layout} v (omega (arith, m.here.within)) (m.here.from v here)
           (omega arith, omega arith),
       λ _. refl,
     )

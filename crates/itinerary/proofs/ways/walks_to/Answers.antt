@@ -9,7 +9,7 @@ pub returns-then-leads : goal.returns-then-leads
 returns-then-leads c =
     let v : ℕ = c.walks.at - 1 in
     let ws = (plan_of c.args.layout).walks in
-    let is = ap (λ (w : Walk). leads w c.args.from c.args.time c.args.to c.args.by) c.walk-at.ensures in
+    let is = ap (λ (w : Walk). leads w c.args.from c.args.time c.args.to c.args.by) c.walk_at.ensures in
     let lead : Leads ws c.args.from c.args.time c.args.to c.args.by v =
     sym is ∙ sym c.if-leads.ensures in
     sym (found_walks ws _ _ _ _ v (omega (arith, c.walks.invariant.here.within)) lead)

@@ -6,11 +6,11 @@ use Rattle.journey.proofs.Naming.{sound_once}
 use Rattle.journey.proofs.Trails.{Trail, trail_one, trail_more, no_first, no_next, ridden}
 use Rattle.journey.proofs.checking.go_along.Goals as goal
 
-pub returns-in-default : goal.returns-in-default
-returns-in-default c =
+pub returns-in_default : goal.returns-in_default
+returns-in_default c =
     let p = plan_in c.args.table.words.now in
     let once = sound_once (sound_plan _ c.args.table.sound) in
-    (c.requires, λ d. at_first c.requires (no_first p _ _ _ once c.requires (sym c.in-default.ensures.value)))
+    (c.requires, λ d. at_first c.requires (no_first p _ _ _ once c.requires (sym c.in_default.ensures.value)))
 
 pub loop-i-init : goal.loop-i-init
 loop-i-init c =
@@ -20,32 +20,32 @@ loop-i-init c =
       c.in-Some.ensures.within,
     )
 
-pub next-leg-requires : goal.next-leg-requires
-next-leg-requires c = c.loop-i.invariant.1
+pub next_leg-requires : goal.next_leg-requires
+next_leg-requires c = c.loop-i.invariant.1
 
-pub returns-in-default-next-leg : goal.returns-in-default-next-leg
-returns-in-default-next-leg c =
+pub returns-in_default-next_leg : goal.returns-in_default-next_leg
+returns-in_default-next_leg c =
     let p = plan_in c.args.table.words.now in
     let x = c.loop-i.invariant.0 in
     let once = sound_once (sound_plan _ c.args.table.sound) in (
       c.loop-i-test.true,
       λ d. at_leg x.first x.rest c.loop-i-test.true x.goes
-          (no_next p _ _ _ once _ _ _ x c.loop-i-test.true (sym c.in-default-next-leg.ensures.value)),
+          (no_next p _ _ _ once _ _ _ x c.loop-i-test.true (sym c.in_default-next_leg.ensures.value)),
     )
 
-pub boats-after-boats-requires : goal.boats-after-boats-requires
-boats-after-boats-requires c = omega (arith, c.loop-i.invariant.0.few)
+pub boats_after-boats-requires : goal.boats_after-boats-requires
+boats_after-boats-requires c = omega (arith, c.loop-i.invariant.0.few)
 
 pub loop-i-preserved : goal.loop-i-preserved
 loop-i-preserved c =
     let p = plan_in c.args.table.words.now in
     let x =
     trail_more p c.args.from c.args.time c.args.legs.now c.loop-i.i c.loop-i.boats
-    c.loop-i.last c.in-Some-next-leg.next
-    c.loop-i.invariant.0 (omega arith) (sym c.in-Some-next-leg.ensures.value) in (
+    c.loop-i.last c.in-Some-next_leg.next
+    c.loop-i.invariant.0 (omega arith) (sym c.in-Some-next_leg.ensures.value) in (
       subst (λ (k : ℕ). Trail p c.args.from c.args.time c.args.legs.now (c.loop-i.i + 1)
-          c.in-Some-next-leg.next k) (sym c.boats-after-boats.ensures) x,
-      c.in-Some-next-leg.ensures.within,
+          c.in-Some-next_leg.next k) (sym c.boats_after-boats.ensures) x,
+      c.in-Some-next_leg.ensures.within,
     )
 
 pub returns : goal.returns

@@ -6,8 +6,8 @@ use Rattle.office.proofs.reading.read_requests.Goals as goal
 pub loop-at-init : goal.loop-at-init
 loop-at-init c = written_none c.args.bytes.now c.args.start _ c.new-all.ensures.items
 
-pub returns-in-default-request-of : goal.returns-in-default-request-of
-returns-in-default-request-of c =
+pub returns-in_default-request_of : goal.returns-in_default-request_of
+returns-in_default-request_of c =
     let bs = c.args.bytes.now in
     let at = c.loop-at.at in
     record {
@@ -21,20 +21,20 @@ returns-in-default-request-of c =
             c.in-Some.kind,
             sym c.of.ensures ∙ c.in-Some.is,
             cut_at c.in-Some.kind bs _ _ at c.size-size.result (take_rest bs (at + 1)) c.size-size.ensures.value
-                c.in-ok-numbers.ensures c.in-default-request-of.ensures,
+                c.in_ok-numbers.ensures c.in_default-request_of.ensures,
           ),
         ),
       );
     }
 
-pub overflow-mul-size : goal.overflow-mul-size
-overflow-mul-size c = search rules
+pub overflow_mul-size : goal.overflow_mul-size
+overflow_mul-size c = search rules
 
 pub loop-at-preserved : goal.loop-at-preserved
 loop-at-preserved c =
     let bs = c.args.bytes.now in
     let at = c.loop-at.at in
-    written_more bs _ _ c.args.start at c.size-size.result c.min.result c.in-Some.kind _ _ c.in-Some-request-of.request
+    written_more bs _ _ c.args.start at c.size-size.result c.min.result c.in-Some.kind _ _ c.in-Some-request_of.request
     c.loop-at-test.true (sym c.of.ensures ∙ c.in-Some.is) (take_rest bs (at + 1)) c.size-size.ensures.value
-    c.in-ok-numbers.ensures c.in-Some-request-of.ensures c.min.ensures c.in-ok-push.ensures.items
+    c.in_ok-numbers.ensures c.in-Some-request_of.ensures c.min.ensures c.in_ok-push.ensures.items
     c.loop-at.invariant

@@ -7,6 +7,6 @@ use Rattle.office.proofs.telling.answer_lines.Goals as goal
 
 pub returns : goal.returns
 returns c =
-    let told = c.in-ok-lines.ensures
+    let told = c.in_ok-lines.ensures
     ∙ ap (λ (ms : List Mark). itineraries_text (length ms) c.args.itineraries.now) c.marks-marks.ensures.value in
-    c.in-ok-text.ensures.ok ∙ (λ j. marks_text (marks_of c.args.front) ++ (feed ++ told j))
+    c.in_ok-text.ensures.ok ∙ (λ j. marks_text (marks_of c.args.front) ++ (feed ++ told j))

@@ -9,11 +9,11 @@ loop-i-init c = lines_first c.args.count c.args.numbers.now _ c.new-text.ensures
 
 pub loop-i-preserved : goal.loop-i-preserved
 loop-i-preserved c =
-    lines_next c.args.count c.loop-i.i c.count-legs-legs.result c.loop-i.rest.now c.behind-count-names.result.now _ _ _ _ _
-    c.loop-i-test.true c.count-legs-legs.ensures.value c.behind-count-names.ensures
-    (take_rest c.behind-count-names.result.now (2 * c.count-legs-legs.result))
-    (c.as-str.ensures.value ∙ c.in-ok-one.ensures)
-    (c.in-ok-push-str-2.ensures.bytes ∙ ap (λ (t : List ℕ). t ++ feed) c.in-ok-push-str.ensures.bytes)
+    lines_next c.args.count c.loop-i.i c.count_legs-legs.result c.loop-i.rest.now c.behind_count-names.result.now _ _ _ _ _
+    c.loop-i-test.true c.count_legs-legs.ensures.value c.behind_count-names.ensures
+    (take_rest c.behind_count-names.result.now (2 * c.count_legs-legs.result))
+    (c.as_str.ensures.value ∙ c.in_ok-one.ensures)
+    (c.in_ok-push_str-2.ensures.bytes ∙ ap (λ (t : List ℕ). t ++ feed) c.in_ok-push_str.ensures.bytes)
     c.loop-i.invariant
 
 pub returns : goal.returns

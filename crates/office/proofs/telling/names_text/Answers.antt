@@ -9,8 +9,8 @@ loop-i-init c = c.new-text.ensures.bytes ∙ sym (text_none _)
 
 pub loop-i-preserved : goal.loop-i-preserved
 loop-i-preserved c =
-    text_more c.loop-i.i c.args.names.now _ _ _ _ c.loop-i.invariant c.gap-before-gap.ensures
-    (c.as-str.ensures.value ∙ c.in-ok-one.ensures.ok) c.in-ok-push-str.ensures.bytes
+    text_more c.loop-i.i c.args.names.now _ _ _ _ c.loop-i.invariant c.gap_before-gap.ensures
+    (c.as_str.ensures.value ∙ c.in_ok-one.ensures.ok) c.in_ok-push_str.ensures.bytes
 
 pub returns : goal.returns
 returns c =

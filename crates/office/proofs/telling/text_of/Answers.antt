@@ -8,7 +8,7 @@ use Rattle.office.proofs.telling.text_of.Goals as goal
 pub loop-response-preserved : goal.loop-response-preserved
 loop-response-preserved c =
     responses_more c.args.responses.now c.loop-response.response-index c.response-item.result _ _ _ (omega arith) c.response-item.is
-    c.loop-response.invariant (c.as-str.ensures.value ∙ c.in-ok-lines.ensures) c.in-ok-push-str.ensures.bytes
+    c.loop-response.invariant (c.as_str.ensures.value ∙ c.in_ok-lines.ensures) c.in_ok-push_str.ensures.bytes
 
 pub returns : goal.returns
 returns c =

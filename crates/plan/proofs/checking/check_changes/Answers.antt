@@ -12,7 +12,7 @@ loop-pier-init c = search (rules, first_not_none)
 pub loop-pier-preserved : goal.loop-pier-preserved
 loop-pier-preserved c = search (rules, first_not_more)
 
-pub returns-in-default : goal.returns-in-default
-returns-in-default c =
+pub returns-in_default : goal.returns-in_default
+returns-in_default c =
     let p = plan_in c.args.words.now in
     search (rules, first_not_hit (change_ok p) BadChange c.loop-pier.pier (piers p))

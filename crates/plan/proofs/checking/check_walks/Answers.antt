@@ -11,7 +11,7 @@ loop-j-init c = search (rules, first_not_none)
 pub loop-j-preserved : goal.loop-j-preserved
 loop-j-preserved c = search (rules, first_not_more)
 
-pub returns-in-default : goal.returns-in-default
-returns-in-default c =
+pub returns-in_default : goal.returns-in_default
+returns-in_default c =
     let p = plan_in c.args.words.now in
     search (rules, first_not_hit (walk_ok p) BadWalk c.loop-j.j (length p.walks))

@@ -11,7 +11,7 @@ loop-i-init c = search (rules, first_not_none)
 pub loop-i-preserved : goal.loop-i-preserved
 loop-i-preserved c = search (rules, first_not_more)
 
-pub returns-in-default : goal.returns-in-default
-returns-in-default c =
+pub returns-in_default : goal.returns-in_default
+returns-in_default c =
     let p = plan_in c.args.words.now in
     search (rules, first_not_hit (leg_ok p) BadLeg c.loop-i.i (length p.legs))

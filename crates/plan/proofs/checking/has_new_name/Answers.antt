@@ -10,7 +10,7 @@ loop-j-init c = all_below_none _
 pub loop-j-preserved : goal.loop-j-preserved
 loop-j-preserved c = search (rules, all_below_more)
 
-pub returns-then-is-named-as : goal.returns-then-is-named-as
-returns-then-is-named-as c =
+pub returns-then-is_named_as : goal.returns-then-is_named_as
+returns-then-is_named_as c =
     let p = plan_in c.args.words.now in
     search (rules, all_below_hit (λ j. not (same_name (leg p c.args.i) (leg p j))) c.loop-j.j c.args.i)

@@ -4,5 +4,5 @@ use Rattle.plan.proofs.writing.copy_plan.Goals as goal
 
 pub returns : goal.returns
 returns c =
-    plan_copied c.args.source.now c.args.words.now c.copy-from-slice.new.self (c.plan-end-end.result - 0)
-    c.requires.whole (omega (arith, c.plan-end-end.ensures)) c.copy-from-slice.ensures.after
+    plan_copied c.args.source.now c.args.words.now c.copy_from_slice.new.self (c.plan_end-end.result - 0)
+    c.requires.whole (omega (arith, c.plan_end-end.ensures)) c.copy_from_slice.ensures.after

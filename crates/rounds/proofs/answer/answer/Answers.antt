@@ -4,16 +4,16 @@ use Rattle.plan.specs.Keys.{Ordered}
 use Rattle.plan.specs.Sound.{Usable}
 use Rattle.rounds.proofs.answer.answer.Goals as goal
 
-pub slice-bounds-answer-checked-end : goal.slice-bounds-answer-checked-end
-slice-bounds-answer-checked-end c =
+pub slice_bounds-answer_checked-end : goal.slice_bounds-answer_checked-end
+slice_bounds-answer_checked-end c =
     let u : Usable c.of-table.result.words.now = subst Usable (sym c.of-table.ensures) (c.in-Ok.ensures.usable refl) in
     let l : c.legs-legs.result ≤ 1024 = omega (arith, u.few.legs) in
     search rules
 
-pub answer-checked-requires : goal.answer-checked-requires
-answer-checked-requires c =
+pub answer_checked-requires : goal.answer_checked-requires
+answer_checked-requires c =
     let xs = c.of-table.result.words.now in
-    let keys = c.check-in-order.new.keys in
+    let keys = c.check_in_order.new.keys in
     let e = sym c.of-table.ensures in
     let u : Usable xs = subst Usable e (c.in-Ok.ensures.usable refl) in
     let o = subst (λ (ys : List ℕ). Ordered (plan_in ys) (take (length (plan_in ys).legs) keys)) e (c.in-Ok.ensures.ordered refl) in

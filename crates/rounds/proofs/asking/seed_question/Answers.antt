@@ -13,8 +13,8 @@ returns c =
           let fits = c.requires.laid.legs i h in
           c.sow.ensures i h
           ∙ ap (λ b. cond {A = ℕ} b 1 0)
-          (outset_begins {p = p} q.from q.time c.set-out.new.ready (leg p i) c.set-out.ensures
+          (outset_begins {p = p} q.from q.time c.set_out.new.ready (leg p i) c.set_out.ensures
           fits.from
           (omega (arith, fits.leaves)));
-      outset = c.set-out.ensures;
+      outset = c.set_out.ensures;
     }

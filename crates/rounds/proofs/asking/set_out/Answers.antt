@@ -12,8 +12,8 @@ walks-preserved c =
     let chain = c.requires.laid.chained in
     let v : ℕ = c.walks.at - 1 in
     let here : suc v ≡ c.walks.at = omega arith in
-    let w = c.walk-at-w.result in
-    let is = c.walk-at-w.ensures in
+    let w = c.walk_at-w.result in
+    let is = c.walk_at-w.ensures in
     let low = c.lower-in-walks.ensures in (
       walk_at (chain_next (walk_from c.args.layout.walks.now) (chains_of chain) v here (chain_at ok)),
       low.long ∙ long,

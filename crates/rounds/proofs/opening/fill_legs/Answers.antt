@@ -25,9 +25,9 @@ loop-c-preserved c =
     let (legs, joins) = c.loop-c.invariant in
     let p = plan_in c.args.table.words.now in
     let i = c.loop-c.c in
-    let is = c.leg.ensures.value ∙ ap (leg p) c.place-of.ensures in (
+    let is = c.leg.ensures.value ∙ ap (leg p) c.place_of.ensures in (
       row_more no_leg _ (λ m. leg p (place_at c.args.keys.now m)) _ i (omega arith) legs is,
-      joins_more i c.is-joined.result (omega arith) c.is-joined.ensures (joins_kept c.leg.result i joins),
+      joins_more i c.is_joined.result (omega arith) c.is_joined.ensures (joins_kept c.leg.result i joins),
     )
 
 pub returns : goal.returns

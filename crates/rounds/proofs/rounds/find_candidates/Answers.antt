@@ -10,7 +10,7 @@ pub loop-i-preserved : goal.loop-i-preserved
 loop-i-preserved c =
     let (few, waiting) = c.loop-i.invariant in
     let i = c.loop-i.i in
-    let is = c.leg-at-a.ensures in
+    let is = c.leg_at-a.ensures in
     elim c.if-a-time.branch [
       | then-a-time+then-runs w ↦ (
         omega (arith, w.left-is),
@@ -19,7 +19,7 @@ loop-i-preserved c =
       )
       | else-a-time w ↦ (
         omega (arith, w.left-is),
-        waiting_as refl w.left-is (waiting_out i c.leg-at-a.result is
+        waiting_as refl w.left-is (waiting_out i c.leg_at-a.result is
             (elim w.else-a-time.branch [
               | else-a-time-via-then-a-time+else-runs v ↦ (λ r l. both_ways _ (sym v.if-runs.ensures) r)
               | else-a-time-via-else-a-time v ↦ (λ r l. omega (arith, v.if-a-time.false))

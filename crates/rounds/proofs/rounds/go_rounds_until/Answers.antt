@@ -24,8 +24,8 @@ rounds-init c =
     (c.fill-2.ensures.after (λ y e. e) ∙ ap (λ m. replicate m never) c.requires.ready)
     (c.fill-3.ensures.after (λ y e. e) ∙ ap (λ m. replicate m never) c.requires.later)
     (c.fill-4.ensures.after (λ y e. e) ∙ ap (λ m. replicate m never) c.requires.arrived)
-    (waiting_level (λ j h. blank j) c.find-candidates-left.ensures.waiting)
-    c.find-candidates-left.ensures.few c.set-off-front.ensures
+    (waiting_level (λ j h. blank j) c.find_candidates-left.ensures.waiting)
+    c.find_candidates-left.ensures.few c.set_off-front.ensures
 
 pub legs-init : goal.legs-init
 legs-init c =
@@ -33,18 +33,18 @@ legs-init c =
     let fits = laid_fits c.rounds.ready c.requires.laid (omega arith) in
     passed_none r.waiting c.requires.sown r.levels r.readies fits (lifted_none r.levels) (scanned_none r)
 
-pub legs_preserved_then_not_opens : goal.legs_preserved_then_not_opens
-legs_preserved_then_not_opens c =
+pub legs-preserved-then-not-opens : goal.legs-preserved-then-not-opens
+legs-preserved-then-not-opens c =
     let r = c.rounds.invariant in
     turn_keep c.requires.laid c.requires.sown (omega arith) r c.legs-test.true c.candidate-i.ensures.is
     c.legs.invariant
     (λ o. both_ways false refl (c.if-not-opens.ensures.1 o)) (omega (arith, r.few))
 
-pub legs_preserved_then_a_arrived : goal.legs_preserved_then_a_arrived
-legs_preserved_then_a_arrived c =
+pub legs-preserved-then-a-arrived : goal.legs-preserved-then-a-arrived
+legs-preserved-then-a-arrived c =
     turn_late c.requires.laid c.requires.sown (omega arith) c.rounds.invariant c.legs-test.true
     c.candidate-i.ensures.is c.legs.invariant (c.if-not-opens.ensures.0 refl) (omega (arith, c.candidate-i.ensures.below))
-    c.leg-at-a.result c.leg-at-a.ensures (omega arith) c.if-a-arrived.true
+    c.leg_at-a.result c.leg_at-a.ensures (omega arith) c.if-a-arrived.true
 
 pub walks-preserved : goal.walks-preserved
 walks-preserved c =
@@ -52,8 +52,8 @@ walks-preserved c =
     let chain = c.requires.laid.chained in
     let v : ℕ = c.walks.at - 1 in
     let here : suc v ≡ c.walks.at = omega arith in
-    let w = c.walk-at-w.result in
-    let is = c.walk-at-w.ensures in
+    let w = c.walk_at-w.result in
+    let is = c.walk_at-w.ensures in
     let low = c.lower-in-walks.ensures in (
       walk_at (chain_next (walk_from c.args.layout.walks.now) (chains_of chain) v here (chain_at ok)),
       low.long ∙ long,
@@ -66,7 +66,7 @@ legs-preserved c =
     let (ok, long, cells, goal) = c.walks.invariant in
     turn_more c.requires.laid c.requires.sown (omega arith) c.rounds.invariant c.legs-test.true
     c.candidate-i.ensures.is c.legs.invariant (c.if-not-opens.ensures.0 refl) (omega (arith, c.candidate-i.ensures.below))
-    c.leg-at-a.result c.leg-at-a.ensures (omega arith)
+    c.leg_at-a.result c.leg_at-a.ensures (omega arith)
     c.lower.ensures c.nearer-soon.ensures (omega arith) long cells goal
 
 pub rounds-preserved : goal.rounds-preserved
@@ -77,12 +77,12 @@ rounds-preserved c =
     let few : c.legs.still ≤ c.rounds.left = omega (arith, c.legs.invariant.few) in
     elim c.if-soon-lt-NEVER.branch [
       | then-soon-lt-NEVER w ↦
-          rounded_copied c.copy-from-slice.ensures.after
+          rounded_copied c.copy_from_slice.ensures.after
           (rounded_more c.requires.laid c.requires.sown (omega arith) (omega arith) r c.legs.invariant end few (omega arith)
-          w.if-soon-lt-NEVER.true (ap marks_of w.front_is ∙ w.with-front.ensures))
+          w.if-soon-lt-NEVER.true (ap marks_of w.front-is ∙ w.with-front.ensures))
       | else-soon-lt-NEVER w ↦
-          rounded_copied c.copy-from-slice.ensures.after
-          (rounded_marks (ap marks_of w.front_is)
+          rounded_copied c.copy_from_slice.ensures.after
+          (rounded_marks (ap marks_of w.front-is)
           (rounded_same c.requires.laid c.requires.sown (omega arith) (omega arith) r c.legs.invariant end few
           w.if-soon-lt-NEVER.false))
     ]

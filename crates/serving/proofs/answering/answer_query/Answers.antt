@@ -3,9 +3,9 @@ use Rattle.marks.specs.Marks.{Among}
 use Rattle.marks.specs.Fronts.{marks_of}
 use Rattle.serving.proofs.answering.answer_query.Goals as goal
 
-pub name-marks-requires : goal.name-marks-requires
-name-marks-requires c =
-    let front = c.answer-laid-front in
+pub name_marks-requires : goal.name_marks-requires
+name_marks-requires c =
+    let front = c.answer_laid-front in
     record {
       laid = c.requires.laid;
       arriving = c.requires.arriving;

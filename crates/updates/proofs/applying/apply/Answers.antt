@@ -9,6 +9,6 @@ of-requires c = search (rules, usable_opens)
 
 pub returns-in-Ok : goal.returns-in-Ok
 returns-in-Ok c =
-    told_done c.args.plan.now c.apply-checked.new.plan c.args.update c.in-default.field-0
-    c.legs.result c.in-default.ensures.value
+    told_done c.args.plan.now c.apply_checked.new.plan c.args.update c.in_default.field-0
+    c.legs.result c.in_default.ensures.value
     c.in-Ok.ensures (c.legs.ensures ∙ ap (λ (ys : List ℕ). length (plan_in ys).legs) c.of.ensures)

@@ -16,4 +16,4 @@ returns c =
     subst (λ (xs : List ℕ). Found (plan_in xs) run number (Some c.in-Some.i)) c.of.ensures
     c.in-Some.ensures in
     cancelled c.args.plan.now run number c.in-Some.i c.requires found.0 found.1
-    c.remove-leg.new.words c.remove-leg.ensures
+    c.remove_leg.new.words c.remove_leg.ensures

@@ -12,8 +12,8 @@ loop-i-init c = search (rules, first_not_none)
 pub loop-i-preserved : goal.loop-i-preserved
 loop-i-preserved c = search (rules, first_not_more)
 
-pub returns-then-not-is-in-time : goal.returns-then-not-is-in-time
-returns-then-not-is-in-time c =
+pub returns-then-not-is_in_time : goal.returns-then-not-is_in_time
+returns-then-not-is_in_time c =
     let p = plan_in c.args.table.words.now in
     search (
       rules,

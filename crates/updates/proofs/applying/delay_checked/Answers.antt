@@ -14,7 +14,7 @@ returns c =
     let xs = c.args.plan.now in
     let u = Delay c.args.run c.args.number c.args.minutes in
     let passed : update_checked (plan_in xs) u ≡ Ok tt =
-    ap (λ (ys : List ℕ). update_checked (plan_in ys) u) (sym c.of-table.ensures) ∙ sym c.check-delay.ensures ∙
-    c.in-ok-check-delay.was in
-    applied xs u c.requires c.delay-legs.new.plan passed
-    (delay_fits xs c.args.run c.args.number c.args.minutes c.requires.whole) c.delay-legs.ensures
+    ap (λ (ys : List ℕ). update_checked (plan_in ys) u) (sym c.of-table.ensures) ∙ sym c.check_delay.ensures ∙
+    c.in_ok-check_delay.was in
+    applied xs u c.requires c.delay_legs.new.plan passed
+    (delay_fits xs c.args.run c.args.number c.args.minutes c.requires.whole) c.delay_legs.ensures

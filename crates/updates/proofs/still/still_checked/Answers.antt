@@ -7,4 +7,4 @@ use Rattle.updates.proofs.still.still_checked.Goals as goal
 pub returns-in-Ok : goal.returns-in-Ok
 returns-in-Ok c =
     subst (λ (q : Result ℕ Refusal). WordedBy q (plan_in c.args.table.words.now) c.args.given.now
-    c.word-on.result) c.in-Ok.ensures c.word-on.ensures
+    c.word_on.result) c.in-Ok.ensures c.word_on.ensures

@@ -13,12 +13,12 @@ by_last c =
     accepts_last f.row f.count c.args.mark f.nine f.within
     _ _ c.marks.ensures.value f.ordered item.3.0 item.1
 
-pub returns-then-has-room : goal.returns-then-has-room
-returns-then-has-room c =
-    c.falls-to.ensures ∙ ap (λ b. b && falls c.in-Some.last.now c.args.mark) c.if-has-room.ensures
-    ∙ sym (by_last (goal.at.returns-then-has-room c).In-Some)
+pub returns-then-has_room : goal.returns-then-has_room
+returns-then-has_room c =
+    c.falls_to.ensures ∙ ap (λ b. b && falls c.in-Some.last.now c.args.mark) c.if-has_room.ensures
+    ∙ sym (by_last (goal.at.returns-then-has_room c).In-Some)
 
-pub returns-else-has-room : goal.returns-else-has-room
-returns-else-has-room c =
-    c.if-has-room.false ∙ ap (λ b. b && falls c.in-Some.last.now c.args.mark) c.if-has-room.ensures
-    ∙ sym (by_last (goal.at.returns-else-has-room c).In-Some)
+pub returns-else-has_room : goal.returns-else-has_room
+returns-else-has_room c =
+    c.if-has_room.false ∙ ap (λ b. b && falls c.in-Some.last.now c.args.mark) c.if-has_room.ensures
+    ∙ sym (by_last (goal.at.returns-else-has_room c).In-Some)

@@ -2,8 +2,8 @@ use Rattle.std.proofs.Common.{rules}
 use Rattle.plan.proofs.Laws.{sound_fit}
 use Rattle.plan.proofs.timetable.Timetable.order_legs.Goals as goal
 
-pub put-in-order-requires : goal.put-in-order-requires
-put-in-order-requires c = record {
+pub put_in_order-requires : goal.put_in_order-requires
+put_in_order-requires c = record {
   whole = c.args.self.whole;
   few = c.requires.few;
   fit = sound_fit c.args.self.words.now c.args.self.sound;

@@ -6,17 +6,21 @@ use Rattle.plan.specs.Sound.{Usable}
 use Rattle.plan.proofs.Laws.{usable, not_refused}
 use Rattle.updates.specs.Updates.{after}
 use Rattle.serving.specs.Kept.{Kept, Coming}
-use Rattle.serving.specs.Runs.{if-done, update_response}
+use Rattle.serving.specs.Runs.{if_done, update_response}
 use Rattle.serving.proofs.Updating.{applied_says, applied_plan}
 use Rattle.serving.proofs.office.Office.apply.Goals as goal
 
-pub apply-checked-requires : goal.apply-checked-requires
-apply-checked-requires c = usable c.args.self.now.words c.args.self.now.usable
+pub apply_checked-requires : goal.apply_checked-requires
+apply_checked-requires c = usable c.args.self.now.words c.args.self.now.usable
 
-pub invariant-of-self : goal.invariant-of-self
-invariant-of-self c =
+pub invariant_of-self : goal.invariant_of-self
+invariant_of-self c =
     let self = c.args.self.now in
-    (not_refused c.apply-checked.new.plan c.apply-checked.ensures.usable, (self.long_legs, (self.long_walks, tt)))
+    record {
+      usable = not_refused c.apply_checked.new.plan c.apply_checked.ensures.usable;
+      long_legs = self.long_legs;
+      long_walks = self.long_walks;
+    }
 
 pub returns-in-Ok : goal.returns-in-Ok
 returns-in-Ok c =
@@ -29,7 +33,7 @@ returns-in-Ok c =
     record {
       says = c.follow.ensures.says ∙ ap update_response says;
       plan = c.follow.ensures.plan ∙ applied_plan self.words c.args.update u long done
-          ∙ ap (λ (o : Result Unit Refusal). if-done o (after p c.args.update) p) says;
+          ∙ ap (λ (o : Result Unit Refusal). if_done o (after p c.args.update) p) says;
       kept = c.follow.ensures.kept;
     }
 
@@ -44,7 +48,7 @@ returns-in-Err c =
     record {
       says = ap update_response says;
       plan = applied_plan self.words c.args.update u long done
-          ∙ ap (λ (o : Result Unit Refusal). if-done o (after p c.args.update) p) says;
+          ∙ ap (λ (o : Result Unit Refusal). if_done o (after p c.args.update) p) says;
       kept = record {
         laid = subst (λ (xs : List ℕ). Kept (plan_in xs) self.legs self.joins self.walks self.change self.first self.link)
             (sym done.memory) c.requires.kept.laid;

@@ -15,8 +15,8 @@ of-table-requires c =
     let xs = c.args.self.now.words in
     record { whole = (usable xs c.args.self.now.usable).whole; sound = opens xs c.args.self.now.usable }
 
-pub make-index-requires : goal.make-index-requires
-make-index-requires c =
+pub make_index-requires : goal.make_index-requires
+make_index-requires c =
     let self = c.args.self.now in
     let is = c.counts-piers.ensures in
     let n = c.counts-piers.result in
@@ -35,7 +35,7 @@ make-index-requires c =
     let chains = chain_room_cut (plan_in self.words) self.last_leg self.prior_leg self.last_walk self.prior_walk
     (n.legs - 0) (n.walks - 0) (n.piers - 0) is.few (omega (arith, is.legs)) (omega (arith, is.walks)) (omega (arith, is.piers))
     el ep ew eq in
-    record { ordered = c.order-legs.ensures; room = room_same same room; chains = chain_room_same same chains }
+    record { ordered = c.order_legs.ensures; room = room_same same room; chains = chain_room_same same chains }
 
 pub returns : goal.returns
 returns c =
@@ -57,8 +57,8 @@ returns c =
     let chains = chain_room_cut p self.last_leg self.prior_leg self.last_walk self.prior_walk
     (n.legs - 0) (n.walks - 0) (n.piers - 0) is.few (omega (arith, is.legs)) (omega (arith, is.walks)) (omega (arith, is.piers))
     el ep ew eq in
-    let last = c.make-index.new in
-    let kept = c.make-index.auto in
+    let last = c.make_index.new in
+    let kept = c.make_index.auto in
     record {
       plan = refl;
       kept = record {
@@ -67,18 +67,18 @@ returns c =
             (kept.change ∙ room.change_long) (kept.first ∙ (room.first_long ∙ room.change_long))
             (kept.link ∙ (room.link_long ∙ room.walks_long))
             (subst (λ (xs : List ℕ). Alike (plan_in xs) (plan_of last.legs last.walks last.change)) c.of-table.ensures
-            c.make-index.ensures.alike) c.make-index.ensures.laid;
+            c.make_index.ensures.alike) c.make_index.ensures.laid;
         coming = coming_made p last.legs _ last.walks _ last.last_leg _ last.prior_leg _ last.last_walk _ last.prior_walk _
             (kept.legs ∙ room.legs_long) (kept.walks ∙ room.walks_long) (kept.last_leg ∙ chains.last_leg_long)
             (kept.prior_leg ∙ chains.prior_leg_long) (kept.last_walk ∙ chains.last_walk_long)
-            (kept.prior_walk ∙ chains.prior_walk_long) c.make-index.ensures.chained;
+            (kept.prior_walk ∙ chains.prior_walk_long) c.make_index.ensures.chained;
       };
     }
 
-pub invariant-of-self : goal.invariant-of-self
-invariant-of-self c =
+pub invariant_of-self : goal.invariant_of-self
+invariant_of-self c =
     let self = c.args.self.now in
     let n = c.counts-piers.result in
-    let legs = same_len_mid 0 (n.legs - 0) self.legs c.make-index.new.legs c.make-index.auto.legs ∙ self.long_legs in
-    let walks = same_len_mid 0 (n.walks - 0) self.walks c.make-index.new.walks c.make-index.auto.walks ∙ self.long_walks in
-    (self.usable, (legs, (walks, tt)))
+    let legs = same_len_mid 0 (n.legs - 0) self.legs c.make_index.new.legs c.make_index.auto.legs ∙ self.long_legs in
+    let walks = same_len_mid 0 (n.walks - 0) self.walks c.make_index.new.walks c.make_index.auto.walks ∙ self.long_walks in
+    record { usable = self.usable; long_legs = legs; long_walks = walks }

@@ -7,20 +7,24 @@ use Rattle.plan.proofs.Written.{usable_written}
 use Rattle.serving.proofs.Fronts.{plan_fits}
 use Rattle.serving.proofs.office.Office.open.Goals as goal
 
-pub copy-plan-requires : goal.copy-plan-requires
-copy-plan-requires c =
-    let u : Usable c.args.plan.now = c.in-ok-check.ensures.usable refl in
+pub copy_plan-requires : goal.copy_plan-requires
+copy_plan-requires c =
+    let u : Usable c.args.plan.now = c.in_ok-check.ensures.usable refl in
     record { whole = u.whole; room = plan_fits c.args.plan.now u }
 
-pub invariant-of-office : goal.invariant-of-office
-invariant-of-office c =
-    let u : Usable c.args.plan.now = c.in-ok-check.ensures.usable refl in
+pub invariant_of-office : goal.invariant_of-office
+invariant_of-office c =
+    let u : Usable c.args.plan.now = c.in_ok-check.ensures.usable refl in
     let kept = usable_written (plan_in c.args.plan.now) _ u.few u.sound in
-    (not_refused c.copy-plan.new.words (subst Usable (sym c.copy-plan.ensures) kept), (refl, (refl, tt)))
+    record {
+      usable = not_refused c.copy_plan.new.words (subst Usable (sym c.copy_plan.ensures) kept);
+      long_legs = refl;
+      long_walks = refl;
+    }
 
 pub returns : goal.returns
 returns c = record {
-  usable = not_refused c.args.plan.now (c.in-ok-check.ensures.usable refl);
-  plan = c.index.ensures.plan ∙ ap plan_in c.copy-plan.ensures ∙ read_written (plan_in c.args.plan.now) _;
+  usable = not_refused c.args.plan.now (c.in_ok-check.ensures.usable refl);
+  plan = c.index.ensures.plan ∙ ap plan_in c.copy_plan.ensures ∙ read_written (plan_in c.args.plan.now) _;
   kept = c.index.ensures.kept;
 }

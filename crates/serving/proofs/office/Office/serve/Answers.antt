@@ -18,9 +18,9 @@ loop-request-preserved c =
     let so = c.loop-request.invariant in (
       c.respond.ensures.plan ∙ ap (λ (p : Plan). plan_next p item) so.0 ∙ sym (plan_more _ rs i item (omega arith) is),
       c.respond.ensures.kept,
-      served_more _ rs i _ _ item c.in-ok-response.response (omega arith) is
-          (subst (λ (p : Plan). Right p item c.in-ok-response.response) so.0 c.in-ok-response.ensures.right)
-          c.in-ok-push.ensures.items so.2,
+      served_more _ rs i _ _ item c.in_ok-response.response (omega arith) is
+          (subst (λ (p : Plan). Right p item c.in_ok-response.response) so.0 c.in_ok-response.ensures.right)
+          c.in_ok-push.ensures.items so.2,
     )
 
 pub returns : goal.returns
@@ -36,16 +36,16 @@ returns c =
       kept = so.1;
     }
 
-pub returns-in-err-response : goal.returns-in-err-response
-returns-in-err-response c =
+pub returns-in_err-response : goal.returns-in_err-response
+returns-in_err-response c =
     let failed = failed_at _ _ _ _ c.args.requests.now c.loop-request.request-index c.request-item.result
-    c.from-residual.result (omega arith) (sym c.request-item.is) c.loop-request.invariant.0 c.respond.ensures.plan
-    c.from-residual.ensures.0 in
+    c.from_residual.result (omega arith) (sym c.request-item.is) c.loop-request.invariant.0 c.respond.ensures.plan
+    c.from_residual.ensures.0 in
     record { served = failed.served; plan = failed.plan; moment = failed.moment; kept = c.respond.ensures.kept }
 
-pub returns-in-err-push : goal.returns-in-err-push
-returns-in-err-push c =
+pub returns-in_err-push : goal.returns-in_err-push
+returns-in_err-push c =
     let failed = failed_at _ _ _ _ c.args.requests.now c.loop-request.request-index c.request-item.result
-    c.from-residual-in-err-push.result (omega arith) (sym c.request-item.is) c.loop-request.invariant.0 c.respond.ensures.plan
-    c.from-residual-in-err-push.ensures.0 in
+    c.from_residual-in_err-push.result (omega arith) (sym c.request-item.is) c.loop-request.invariant.0 c.respond.ensures.plan
+    c.from_residual-in_err-push.ensures.0 in
     record { served = failed.served; plan = failed.plan; moment = failed.moment; kept = c.respond.ensures.kept }

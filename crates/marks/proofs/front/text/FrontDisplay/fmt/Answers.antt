@@ -11,9 +11,9 @@ loop-i-init g c = λ plain. record { wrote = writes_in_calls_nil g.W.Write.write
 pub loop-i-preserved : goal.loop-i-preserved
 loop-i-preserved g c = λ plain.
     put_next g.W.Write.write_str_gives c.args.f.now c.loop-i.f c.write.new.self
-    (text_more c.marks-marks.result.now c.loop-i.i _ _ c.loop-i-test.true c.gap-before-gap.ensures)
+    (text_more c.marks-marks.result.now c.loop-i.i _ _ c.loop-i-test.true c.gap_before-gap.ensures)
     (c.loop-i.invariant plain)
-    c.in-ok-write.ensures.shows
+    c.in_ok-write.ensures.writes
 
 pub returns-clause-writes : goal.returns-clause-writes
 returns-clause-writes g c = λ plain ok.
