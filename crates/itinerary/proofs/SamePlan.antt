@@ -1,5 +1,5 @@
 -- The same plan with its legs in another order has the same itineraries.
-use Rattle.std.proofs.Common.{◌≡◌, ℕ, List, [], length, Ok, Err, Result, sym, subst}
+use Rattle.std.proofs.Common.{◌≡◌, ℕ, List, length, Ok, Err, Result, sym, subst}
 use Rattle.plan.specs.declared.leg.Leg.{Leg}
 use Rattle.plan.specs.declared.walk.Walk.{Walk}
 use Rattle.plan.specs.declared.refusal.Refusal.{Refusal}

@@ -1,12 +1,12 @@
 -- In a plan of any size each leg has a level: the least boats with which it is ridden.
-use Rattle.std.proofs.Common.{◌≡◌, ℕ, zero, suc, ◌<◌, ◌≤◌, Bool, true, false, cond, ◌&&◌, ltb, List, map, length, get_or, sym, refl, ap, ◌∙◌, subst, ⊎_elim, arith}
+use Rattle.std.proofs.Common.{◌≡◌, ℕ, zero, suc, ◌<◌, ◌≤◌, Bool, true, false, cond, ◌&&◌, ltb, List, map, length, get_or, refl, ◌∙◌, subst, ⊎_elim, arith}
 use Rattle.std.proofs.lemmas.Bool.{cases_Bool, cases_lt, cond-true, cond-false, and_parts, and_from, lt-ltb}
 use Rattle.std.proofs.lemmas.Bool.Decides.{nat_tests}
 use Rattle.std.proofs.lemmas.List.{get_or-map}
 use Rattle.plan.specs.declared.leg.Leg.{Leg}
 use Rattle.plan.specs.Legs.{Plan, leg, no_leg, runs}
 use Rattle.journey.specs.Journeys.{boats, last}
-use Rattle.journey.specs.Aboard.{Aboard, Usable}
+use Rattle.journey.specs.Aboard.{Aboard}
 use Rattle.journey.proofs.PlanLegs.{usable_at}
 use Rattle.journey.proofs.Chains.{boats_some}
 use Rattle.journey.proofs.Aboard.{aboard_in}

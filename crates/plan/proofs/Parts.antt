@@ -1,5 +1,5 @@
 -- Where the legs, walks and changes of a plan lie in the words that hold it.
-use Rattle.std.proofs.Common.{◌≡◌, ℕ, zero, suc, ◌+◌, ◌-◌, ◌*◌, ◌<◌, ◌≤◌, List, [], length, get_or, take, drop, refl, ap, ◌∙◌, arith, lit<}
+use Rattle.std.proofs.Common.{◌≡◌, ℕ, zero, suc, ◌+◌, ◌-◌, ◌*◌, ◌<◌, ◌≤◌, List, length, get_or, take, drop, refl, ap, ◌∙◌, arith, lit<}
 use Rattle.std.proofs.lemmas.List.{drop-drop, get_or-take, get_or-drop, length-take-le, length-drop}
 use Rattle.plan.specs.Legs.{no_leg, no_walk, leg, walk, change_at, piers}
 use Rattle.plan.specs.Words.{leg_of, legs_in, walk_of, walks_in, legs_start, walks_start, Whole, plan_in}

@@ -1,6 +1,6 @@
 -- A question: the legs that it seeds are those that a journey can begin with, and what is reached from them is what
 -- journeys reach.
-use Rattle.std.proofs.Common.{◌≡◌, ℕ, ◌+◌, ◌<◌, ◌≤◌, Bool, true, cond, ◌⊎◌, List, length, get_or, replicate, sym, refl, ap, ◌∙◌, subst, ⊎_elim, le_refl, add-zero, arith}
+use Rattle.std.proofs.Common.{◌≡◌, ℕ, ◌+◌, ◌<◌, ◌≤◌, Bool, true, cond, List, length, get_or, replicate, sym, refl, ap, ◌∙◌, subst, ⊎_elim, le_refl, add-zero, arith}
 use lib.ListN.{length-replicate}
 use Rattle.std.proofs.lemmas.List.{get_or-replicate}
 use Rattle.std.proofs.lemmas.Bool.{cases_Bool, cond-true, cond-false, leb-true, le-leb}

@@ -1,11 +1,10 @@
 -- The same plan with its legs in another order is answered the same, in full.
-use Rattle.std.proofs.Common.{◌≡◌, ℕ, List, length, IfOk, Ok, Err, vec_items, Result, subst}
+use Rattle.std.proofs.Common.{ℕ, List, length, IfOk, Ok, Err, Result, subst}
 use Rattle.std.specs.declared.alloc.AllocError.{AllocError}
 use Rattle.plan.specs.declared.refusal.Refusal.{Refusal}
 use Rattle.plan.specs.Legs.{Plan, piers}
 use Rattle.journey.specs.declared.question.Question.{Question}
 use Rattle.marks.specs.declared.mark.Mark.{Mark}
-use Rattle.marks.specs.Fronts.{marks_of}
 use Rattle.rounds.specs.declared.query.Query.{Query}
 use Rattle.rounds.specs.Layout.{Alike}
 use Rattle.rounds.specs.Query.{query_checked}

@@ -1,5 +1,5 @@
 -- In the words of an office an update is refused by the rules alone: there is always room.
-use Rattle.std.proofs.Common.{◌≡◌, ℕ, ◌≤◌, Bool, true, cond, leb, List, length, Ok, Err, Result, sym, refl, ap, ◌∙◌, subst, arith, le-leb}
+use Rattle.std.proofs.Common.{◌≡◌, ℕ, ◌≤◌, Bool, true, cond, leb, List, length, Ok, Err, Result, refl, ap, ◌∙◌, subst, arith, le-leb}
 use Rattle.plan.specs.declared.refusal.Refusal.{Refusal}
 use Rattle.plan.specs.declared.refusal.Refusal.TheVariants.{Short}
 use Rattle.plan.specs.Legs.{Plan}

@@ -2,7 +2,7 @@
 use Rattle.std.specs.Prelude.{◌≡◌, ℕ, List, [], ◌∷◌, ◌++◌, Ok, Err, vec_items, Result}
 use Rattle.plan.specs.declared.leg.Leg.{Leg}
 use Rattle.plan.specs.declared.refusal.Refusal.{Refusal}
-use Rattle.plan.specs.Legs.{Plan, piers}
+use Rattle.plan.specs.Legs.{Plan}
 use Rattle.journey.specs.declared.question.Question.{Question}
 use Rattle.marks.specs.declared.mark.Mark.{Mark}
 use Rattle.marks.specs.Fronts.{marks_of}
@@ -10,7 +10,6 @@ use Rattle.rounds.specs.declared.query.Query.{Query}
 use Rattle.rounds.specs.Answers.{Answer}
 use Rattle.itinerary.specs.Order.{Itinerary}
 use Rattle.itinerary.specs.Named.{itinerary_words}
-use Rattle.marks.specs.declared.front.Front.{Front}
 use Rattle.serving.specs.declared.response.Response.{Response}
 use Rattle.serving.specs.declared.response.Response.TheVariants.{Marks, Updated, Looked, Refused}
 

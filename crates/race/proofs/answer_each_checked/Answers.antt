@@ -1,4 +1,4 @@
-use Rattle.std.proofs.Common.{◌/◌, length, arith}
+use Rattle.std.proofs.Common.{◌/◌, length}
 use Rattle.plan.specs.Words.{plan_in}
 use Rattle.rounds.specs.Rows.{plan_of}
 use Rattle.race.proofs.Each.{each_alike}

@@ -1,4 +1,4 @@
-use Rattle.std.proofs.Common.{◌≡◌, ℕ, ◌/◌, List, length, sym, refl, ◌∙◌, subst}
+use Rattle.std.proofs.Common.{ℕ, ◌/◌, List, length, refl, subst}
 use Rattle.plan.specs.Words.{plan_in}
 use Rattle.race.specs.Each.{EachAnswered, Raced}
 use Rattle.race.proofs.race_opened.Goals as goal

@@ -1,4 +1,3 @@
-use Rattle.std.proofs.Common.{rules}
 use Rattle.plan.proofs.Laws.{sound_fit}
 use Rattle.plan.proofs.timetable.Timetable.order_legs.Goals as goal
 

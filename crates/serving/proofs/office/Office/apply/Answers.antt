@@ -1,6 +1,5 @@
-use Rattle.std.proofs.Common.{◌≡◌, ℕ, List, length, Result, sym, refl, ap, ◌∙◌, subst, rules}
+use Rattle.std.proofs.Common.{◌≡◌, ℕ, List, length, Result, sym, ap, ◌∙◌, subst, rules}
 use Rattle.plan.specs.declared.refusal.Refusal.{Refusal}
-use Rattle.plan.specs.Legs.{Plan}
 use Rattle.plan.specs.Words.{plan_in}
 use Rattle.plan.specs.Sound.{Usable}
 use Rattle.plan.proofs.Laws.{usable, not_refused}

@@ -1,4 +1,4 @@
-use Rattle.std.proofs.Common.{◌≡◌, ◌-◌, length, take, sym, arith, length-take, rules}
+use Rattle.std.proofs.Common.{◌≡◌, ◌-◌, length, arith, length-take, rules}
 use Rattle.plan.specs.Legs.{piers}
 use Rattle.itinerary.specs.Arrivals.{leg_to, walk_to}
 use Rattle.serving.specs.Offices.{plan_kept, plan_laid}

@@ -1,10 +1,8 @@
 use Rattle.std.proofs.Common.{◌≡◌, ℕ, ◌-◌, List, length, sym, refl, ap, ◌∙◌, subst, arith, rules}
 use borrow.Rule.Slice.PartMut.{same_len_mid}
-use Rattle.plan.specs.Legs.{Plan, piers}
 use Rattle.plan.specs.Words.{plan_in}
-use Rattle.plan.specs.Sound.{Few}
 use Rattle.plan.proofs.Laws.{usable, opens}
-use Rattle.rounds.specs.Opened.{plan_of, Room}
+use Rattle.rounds.specs.Opened.{plan_of}
 use Rattle.rounds.specs.Layout.{Alike}
 use Rattle.serving.proofs.Chained.{coming_made, chain_room_cut, chain_room_same}
 use Rattle.serving.proofs.Fronts.{room_cut, room_same, kept_laid}

@@ -1,7 +1,7 @@
-use Rattle.std.proofs.Common.{◌≡◌, sym, refl, ap, ◌∙◌, subst, arith, rules}
+use Rattle.std.proofs.Common.{sym, refl, ap, ◌∙◌, subst}
 use Rattle.plan.specs.Sound.{Usable}
 use Rattle.plan.specs.Words.{plan_in}
-use Rattle.plan.proofs.Laws.{usable, not_refused}
+use Rattle.plan.proofs.Laws.{not_refused}
 use Rattle.plan.proofs.ReadBack.{read_written}
 use Rattle.plan.proofs.Written.{usable_written}
 use Rattle.serving.proofs.Fronts.{plan_fits}

@@ -1,7 +1,6 @@
-use Rattle.std.proofs.Common.{◌≡◌, length, vec_items, sym, refl, ap, ◌∙◌, subst, arith, rules}
+use Rattle.std.proofs.Common.{◌≡◌, length, sym, ap, ◌∙◌, subst, arith}
 use Rattle.plan.specs.Legs.{Plan}
 use Rattle.serving.specs.Runs.{plan_next, plan_at, Right}
-use Rattle.serving.specs.Offices.{plan_kept}
 use Rattle.serving.proofs.Runs.{plan_none, plan_more, served_none, served_more, served_all, failed_at}
 use Rattle.serving.proofs.office.Office.serve.Goals as goal
 
