@@ -6,4 +6,4 @@ pub mod itineraries;
 pub mod journeys;
 pub mod plans;
 pub mod runs;
-pub mod updates;
+pub mod updating;

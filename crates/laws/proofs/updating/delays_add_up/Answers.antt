@@ -1,5 +1,5 @@
 use Rattle.laws.proofs.AddedUp.{delays_add}
-use Rattle.laws.proofs.updates.delays_add_up.Goals as goal
+use Rattle.laws.proofs.updating.delays_add_up.Goals as goal
 
 pub returns : goal.returns
 returns c = delays_add
