@@ -1,6 +1,6 @@
 -- The computed marks are those of journeys, and none is missing: so the best of them are the answer.
 use Rattle.std.proofs.Common.{◌≡◌, ℕ, zero, suc, ◌+◌, ◌<◌, ◌≤◌, Bool, true, cond, ◌&&◌, ◌||◌, eqb, ◌⊎◌, List, [], ◌∷◌, ◌++◌, length, get_or, sym, refl, ◌∙◌, subst, inl, inr, arith}
-use Rattle.std.specs.List.{AllByRecursion as All}
+use Rattle.std.specs.List.{AllByRecursion}
 use Rattle.std.proofs.ByRecursion.{All-append, All-weaker}
 use Rattle.std.proofs.lemmas.Bool.Decides.{nat_tests}
 use Rattle.std.proofs.lemmas.Bool.{and_parts, and_from, or_left, or_right, eqb-true, false≢true, cond_both, cases_eq}
@@ -32,22 +32,22 @@ mark u n = record { arrival = u; boats = n }
 on_foot_all : (E : Mark → Type 0) (ws : List Walk) (d s t n : ℕ) →
     ((j : ℕ) → j < length ws → (get_or ws j no_walk).from ≡ s → (get_or ws j no_walk).to ≡ d →
     E (mark (t + (get_or ws j no_walk).takes) n)) →
-    All E (marks_on_foot ws d s t n)
+    AllByRecursion E (marks_on_foot ws d s t n)
 on_foot_all E [] d s t n h = tt
 on_foot_all E (w ∷ ws) d s t n h =
     let ih = on_foot_all E ws d s t n (λ j l. h (suc j) (omega arith)) in
-    cond_both (eqb w.from s && eqb w.to d) _ _ (All E)
+    cond_both (eqb w.from s && eqb w.to d) _ _ (AllByRecursion E)
     (λ e. let x = and_parts _ _ e in (h 0 (omega arith) (eqb-true _ _ x.0) (eqb-true _ _ x.1), ih))
     (λ e. ih)
 
 abbrev EndsWith : Plan → ℕ → ℕ → ℕ → ℕ → Mark → Type 0
 EndsWith p d s t n m = Ends p d s t m.arrival × (m.boats ≡ n)
 
-marks_at_all : (p : Plan) (d s t n : ℕ) → All (EndsWith p d s t n) (marks_at p d s t n)
+marks_at_all : (p : Plan) (d s t n : ℕ) → AllByRecursion (EndsWith p d s t n) (marks_at p d s t n)
 marks_at_all p d s t n =
     let E = EndsWith p d s t n in
     let walked = on_foot_all E p.walks d s t n (λ j l e f. (on_foot j l e f, refl)) in
-    cond_both (eqb s d) _ _ (All E)
+    cond_both (eqb s d) _ _ (AllByRecursion E)
     (λ e. ((subst (λ (c : ℕ). Ends p c s t t) (eqb-true s d e) at_once, refl), walked))
     (λ e. walked)
 
@@ -108,14 +108,14 @@ module _ (p : Plan) (q : Question) where
   ReachedWithin n m = MarkReached p q m × (m.boats ≤ n)
 
   marks_by_all : (k : ℕ) (ls : List Leg) → ((b : Leg) → in_plan b ls ≡ true → in_plan b p.legs ≡ true) →
-      All (ReachedWith (suc k)) (marks_by p q k ls)
+      AllByRecursion (ReachedWith (suc k)) (marks_by p q k ls)
   marks_by_all k [] h = tt
   marks_by_all k (b ∷ bs) h =
       let M = ReachedWith (suc k) in
       let E = EndsWith p q.to b.to b.comes (suc k) in
       let here = marks_at p q.to b.to b.comes (suc k) in
-      let ih : All M (marks_by p q k bs) = marks_by_all k bs (λ c i. h c (in_plan_later c b bs i)) in
-      cond_both (runs b && rides p q.from q.time k b) (here ++ marks_by p q k bs) (marks_by p q k bs) (All M)
+      let ih : AllByRecursion M (marks_by p q k bs) = marks_by_all k bs (λ c i. h c (in_plan_later c b bs i)) in
+      cond_both (runs b && rides p q.from q.time k b) (here ++ marks_by p q k bs) (marks_by p q k bs) (AllByRecursion M)
       (λ e.
       let y = and_parts (runs b) (rides p q.from q.time k b) e in
       let usable : Usable p b = record { known = h b (in_plan_first b bs); going = y.0 } in
@@ -125,7 +125,7 @@ module _ (p : Plan) (q : Question) where
       All-append M here (marks_by p q k bs) reached ih)
       (λ e. ih)
 
-  all_marks_reached : (most : ℕ) → All (ReachedWithin most) (all_marks p q most)
+  all_marks_reached : (most : ℕ) → AllByRecursion (ReachedWithin most) (all_marks p q most)
   all_marks_reached zero =
       All-weaker (EndsWith p q.to q.from q.time 0) (ReachedWithin 0) (λ m z. (foot_mark m z, omega arith))
       (all_marks p q 0) (marks_at_all p q.to q.from q.time 0)

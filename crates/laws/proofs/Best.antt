@@ -1,6 +1,6 @@
 -- The best of some marks: an answer from any list of reached marks that covers all that are reached.
 use Rattle.std.proofs.Common.{◌≡◌, ℕ, ◌≤◌, true, ◌||◌, ltb, List, [], ◌∷◌, arith}
-use Rattle.std.specs.List.{AllByRecursion as All}
+use Rattle.std.specs.List.{AllByRecursion}
 use Rattle.std.proofs.lemmas.Bool.Decides.{nat_tests}
 use Rattle.std.proofs.lemmas.Bool.{cond_both}
 use Rattle.marks.specs.declared.mark.Mark.{Mark}
@@ -11,22 +11,22 @@ use Rattle.marks.proofs.Marks.{Before, falling_tail, falling_head, falling_cons}
 use Rattle.laws.specs.Computed.{add, best}
 
 -- what holds of all marks of a list holds of each among them, and back
-all_among : (P : Mark → Type 0) {m : Mark} {ms : List Mark} → Among m ms → All P ms → P m
+all_among : (P : Mark → Type 0) {m : Mark} {ms : List Mark} → Among m ms → AllByRecursion P ms → P m
 all_among P among_first a = a.0
 all_among P (among_later i) a = all_among P i a.1
 
-among_all : (P : Mark → Type 0) (ms : List Mark) → ((m : Mark) → Among m ms → P m) → All P ms
+among_all : (P : Mark → Type 0) (ms : List Mark) → ((m : Mark) → Among m ms → P m) → AllByRecursion P ms
 among_all P [] h = tt
 among_all P (m ∷ ms) h = (h m among_first, among_all P ms (λ n i. h n (among_later i)))
 
 -- no mark comes in but the one that is added
-add_all : (P : Mark → Type 0) (m : Mark) (ms : List Mark) → P m → All P ms → All P (add m ms)
+add_all : (P : Mark → Type 0) (m : Mark) (ms : List Mark) → P m → AllByRecursion P ms → AllByRecursion P (add m ms)
 add_all P m [] h a = (h, tt)
 add_all P m (n ∷ ns) h a =
     let ih = add_all P m ns h a.1 in
-    cond_both (no_worse n m) _ _ (All P) (λ e. a) λ e.
-    cond_both (no_worse m n) _ _ (All P) (λ e. ih) λ e.
-    cond_both (ltb m.boats n.boats) _ _ (All P) (λ e. (h, a)) (λ e. (a.0, ih))
+    cond_both (no_worse n m) _ _ (AllByRecursion P) (λ e. a) λ e.
+    cond_both (no_worse m n) _ _ (AllByRecursion P) (λ e. ih) λ e.
+    cond_both (ltb m.boats n.boats) _ _ (AllByRecursion P) (λ e. (h, a)) (λ e. (a.0, ih))
 
 -- A mark that is neither needless nor makes the next one needless comes before it with fewer boats, or after it with
 -- more and earlier. So the list falls still: behind n stand only marks that stood there and the added one, and each of
@@ -53,7 +53,7 @@ best_falling : (ms : List Mark) → Falling (best ms)
 best_falling [] = falling_none
 best_falling (m ∷ ms) = add_falling m (best ms) (best_falling ms)
 
-best_all : (P : Mark → Type 0) (ms : List Mark) → All P ms → All P (best ms)
+best_all : (P : Mark → Type 0) (ms : List Mark) → AllByRecursion P ms → AllByRecursion P (best ms)
 best_all P [] a = a
 best_all P (m ∷ ms) a = add_all P m (best ms) a.0 (best_all P ms a.1)
 
@@ -62,7 +62,7 @@ best_covers x [] e = e
 best_covers x (m ∷ ms) e = let ih = best_covers x ms in add_covers x m (best ms) (grind arith)
 
 -- whatever it is that says which marks are reached
-pub best_answers : (R : Mark → Type 0) (most : ℕ) (ms : List Mark) → All (λ m. R m × (m.boats ≤ most)) ms →
+pub best_answers : (R : Mark → Type 0) (most : ℕ) (ms : List Mark) → AllByRecursion (λ m. R m × (m.boats ≤ most)) ms →
     ((m : Mark) → R m → m.boats ≤ most → covered m ms ≡ true) → AnswerOf R most (best ms)
 best_answers R most ms s c =
     let P : Mark → Type 0 = λ m. R m × (m.boats ≤ most) in

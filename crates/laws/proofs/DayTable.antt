@@ -1,6 +1,6 @@
 -- Each row of the table of the day of four piers, by computing its answers.
 use Rattle.std.proofs.Common.{◌≡◌, ℕ, List, [], ◌∷◌, take, refl, subst}
-use Rattle.std.specs.List.{AllByRecursion as All}
+use Rattle.std.specs.List.{AllByRecursion}
 use Rattle.plan.specs.Legs.{Plan}
 use Rattle.plan.specs.Check.{first_not}
 use Rattle.journey.specs.declared.question.Question.{Question}
@@ -24,7 +24,7 @@ record Computes (r : DayRow) : Type 0 where
 answers : (p : Plan) (most : ℕ) (q : Question) (ms : List Mark) → answer_of p most q ≡ ms → Answer p most q ms
 answers p most q ms e = subst (Answer p most q) e (computed_answers p most q)
 
-stands : (rows : List DayRow) → All Computes rows → All DayRowStands rows
+stands : (rows : List DayRow) → AllByRecursion Computes rows → AllByRecursion DayRowStands rows
 stands [] h = tt
 stands (r ∷ rows) h =
     let p = by_now r.after in
@@ -38,7 +38,7 @@ stands (r ∷ rows) h =
       stands rows h.1,
     )
 
-computes : All Computes day_table
+computes : AllByRecursion Computes day_table
 unfolding day rides aboard walks_to
 computes = (
   record { two = refl; three = refl; two_by_one = refl; three_by_one = refl },

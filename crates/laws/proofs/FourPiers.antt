@@ -1,6 +1,6 @@
 -- Each row of the table of four piers, by computing its answer.
 use Rattle.std.proofs.Common.{◌≡◌, List, [], ◌∷◌, refl, subst}
-use Rattle.std.specs.List.{AllByRecursion as All}
+use Rattle.std.specs.List.{AllByRecursion}
 use Rattle.journey.specs.Steps.{walks_to}
 use Rattle.laws.specs.JourneyLaws.{asked}
 use Rattle.rounds.specs.Answers.{Answer}
@@ -12,7 +12,7 @@ use Rattle.laws.proofs.AllMarks.{computed_answers}
 abbrev Computes : Row → Type 0
 Computes r = answer_of r.plan r.most (asked 0 9 r.to) ≡ r.marks
 
-stands : (rows : List Row) → All Computes rows → All RowStands rows
+stands : (rows : List Row) → AllByRecursion Computes rows → AllByRecursion RowStands rows
 stands [] h = tt
 stands (r ∷ rows) h =
     let q = asked 0 9 r.to in

@@ -1,7 +1,7 @@
 -- The examples: all are computed, but that nobody gets there by two walks.
 use Rattle.std.proofs.Common.{◌≡◌, ℕ, ◌≤◌, true, [], ◌∷◌, refl, ⊎_elim, arith}
 use Rattle.std.proofs.lemmas.Bool.{false≢true}
-use Rattle.std.specs.List.{AllByRecursion as All}
+use Rattle.std.specs.List.{AllByRecursion}
 use Rattle.plan.specs.declared.leg.Leg.{Leg}
 use Rattle.journey.specs.Steps.{walks_to}
 use Rattle.journey.specs.Journeys.{in_plan, joined, boats, last, Reached}
@@ -13,7 +13,7 @@ use Rattle.journey.proofs.Following.{begins_le}
 use Rattle.laws.specs.JourneyLaws.{asked}
 use Rattle.laws.specs.JourneyExamples.{harbour, early, onward, missed, caught, across, ExamplesStand}
 
-each_gone : All (λ b. b.leaves ≤ 40) harbour.legs
+each_gone : AllByRecursion (λ b. b.leaves ≤ 40) harbour.legs
 each_gone = (omega arith, (omega arith, (omega arith, (omega arith, (omega arith, (omega arith, (omega arith, tt)))))))
 
 all_gone : (a : Leg) → in_plan a harbour.legs ≡ true → a.leaves ≤ 40

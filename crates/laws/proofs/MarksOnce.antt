@@ -1,7 +1,7 @@
 -- A journey that reaches a mark of the answer has no leg twice.
 use Rattle.std.proofs.Common.{◌≡◌, ℕ, ◌<◌, true, false, ◌⊎◌, List, [], ◌∷◌, reverse, length, sym, refl, ap, subst, inl, inr, ⊎_elim, arith}
 use mathlib.Core.List.{reverse_aux, reverse-reverse}
-use Rattle.std.specs.List.{AllByRecursion as All}
+use Rattle.std.specs.List.{AllByRecursion}
 use Rattle.std.proofs.lemmas.Bool.{cases_Bool, cases_lt, or_parts, or_from}
 use Rattle.std.proofs.lemmas.Bool.Decides.{nat_tests}
 use Rattle.plan.specs.declared.leg.Leg.{Leg}
@@ -45,21 +45,21 @@ names_apart a b e = grind (arith, nat_tests)
 abbrev Unnamed : List Leg → Leg → Type 0
 Unnamed ys x = named_in x ys ≡ false
 
-apart_more : (x : Leg) (ys xs : List Leg) → named_in x xs ≡ false → All (Unnamed ys) xs → All (Unnamed (x ∷ ys)) xs
+apart_more : (x : Leg) (ys xs : List Leg) → named_in x xs ≡ false → AllByRecursion (Unnamed ys) xs → AllByRecursion (Unnamed (x ∷ ys)) xs
 apart_more x ys [] e a = tt
 apart_more x ys (z ∷ zs) e a =
     let (here, rest) = named_in_parts x z zs e in
     (named_in_from z x ys (names_apart x z here) a.0, apart_more x ys zs rest a.1)
 
 -- the order in which legs are told makes no difference
-twice_onto : (xs ys : List Leg) → named_twice xs ≡ false → named_twice ys ≡ false → All (Unnamed ys) xs →
+twice_onto : (xs ys : List Leg) → named_twice xs ≡ false → named_twice ys ≡ false → AllByRecursion (Unnamed ys) xs →
     named_twice (reverse_aux xs ys) ≡ false
 twice_onto [] ys e f a = f
 twice_onto (x ∷ xs) ys e f a =
     let (here, rest) = named_twice_parts x xs e in
     twice_onto xs (x ∷ ys) rest (named_twice_from x ys a.0 f) (apart_more x ys xs here a.1)
 
-apart_none : (xs : List Leg) → All (Unnamed []) xs
+apart_none : (xs : List Leg) → AllByRecursion (Unnamed []) xs
 apart_none [] = tt
 apart_none (x ∷ xs) = (none_named x, apart_none xs)
 
@@ -90,7 +90,7 @@ module _ (p : Plan) (once : NamedOnce p.legs) (q : Question) {most : ℕ} {level
     some : 0 < level_at level place
     under : Under i place
 
-  earlier_all : (i x : ℕ) → Under i x → (xs : List Leg) → All (Earlier x) xs → All (Earlier i) xs
+  earlier_all : (i x : ℕ) → Under i x → (xs : List Leg) → AllByRecursion (Earlier x) xs → AllByRecursion (Earlier i) xs
   earlier_all i x u [] a = tt
   earlier_all i x u (c ∷ cs) a =
       let e = a.0 in (
@@ -120,13 +120,13 @@ module _ (p : Plan) (once : NamedOnce p.legs) (q : Question) {most : ℕ} {level
           less : leg p i ≡ leg p e.place → (leg p e.place).number < (leg p i).number → ⊥
           less is n = let same = ap (λ (z : Leg). z.number) is in omega (arith, n)
 
-  unnamed : (i : ℕ) → i < length p.legs → 0 < level_at level i → (xs : List Leg) → All (Earlier i) xs →
+  unnamed : (i : ℕ) → i < length p.legs → 0 < level_at level i → (xs : List Leg) → AllByRecursion (Earlier i) xs →
       named_in (leg p i) xs ≡ false
   unnamed i h l [] a = none_named (leg p i)
   unnamed i h l (c ∷ cs) a = named_in_from (leg p i) c cs (other_name i h l c a.0) (unnamed i h l cs a.1)
 
   trail_once : (i : ℕ) → i < length p.legs → 0 < level_at level i → (xs : List Leg) →
-      Trail p q.from q.time (level_at level i) (leg p i) xs → All (Earlier i) xs × (named_twice xs ≡ false)
+      Trail p q.from q.time (level_at level i) (leg p i) xs → AllByRecursion (Earlier i) xs × (named_twice xs ≡ false)
   trail_once i h l [] x = (tt, none_twice)
   trail_once i h l (c ∷ zs) x =
       let w = before_leg ls i h l c zs x in

@@ -2,7 +2,7 @@
 use Rattle.std.proofs.Common.{◌≡◌, ℕ, suc, ◌<◌, ◌≤◌, true, List, [], ◌∷◌, map, length, take, Some, None, Option, sym, refl, ap, ◌∙◌, subst, ⊎_elim, arith}
 use Rattle.std.proofs.lemmas.List.{take-take}
 use Rattle.std.proofs.lemmas.Bool.{cases_lt}
-use Rattle.std.specs.List.{AllByRecursion as All}
+use Rattle.std.specs.List.{AllByRecursion}
 use Rattle.plan.specs.declared.leg.Leg.{Leg}
 use Rattle.plan.specs.Legs.{Plan}
 use Rattle.journey.specs.declared.name.LegName.{LegName}
@@ -121,8 +121,8 @@ data Ended (p : Plan) (s t d : ℕ) (names : List LegName) (o : Option ℕ) (k :
       EarliestEnd p d (last first rest).to (last first rest).comes o → Ended p s t d names o k
 
 -- names name legs: legs of the plan that have the same names are the same
-pub legs_same : (ls : List Leg) → NamedOnce ls → (xs ys : List Leg) → All (λ a. in_plan a ls ≡ true) xs →
-    All (λ a. in_plan a ls ≡ true) ys → map name xs ≡ map name ys → xs ≡ ys
+pub legs_same : (ls : List Leg) → NamedOnce ls → (xs ys : List Leg) → AllByRecursion (λ a. in_plan a ls ≡ true) xs →
+    AllByRecursion (λ a. in_plan a ls ≡ true) ys → map name xs ≡ map name ys → xs ≡ ys
 legs_same ls once [] [] i j e = refl
 legs_same ls once [] (y ∷ ys) i j e = let z : ◌≡◌ {A = ℕ} 0 1 = cc in absurd (omega arith)
 legs_same ls once (x ∷ xs) [] i j e = let z : ◌≡◌ {A = ℕ} 0 1 = cc in absurd (omega arith)
@@ -135,10 +135,10 @@ legs_same ls once (x ∷ xs) (y ∷ ys) i j e =
 
 -- every leg of a journey is in the plan
 pub legs_known : {p : Plan} {s t : ℕ} {a : Leg} {xs : List Leg} → Journey p s t a xs →
-    All (λ b. in_plan b p.legs ≡ true) (a ∷ xs)
+    AllByRecursion (λ b. in_plan b p.legs ≡ true) (a ∷ xs)
 legs_known {p} {a = a} {xs = xs} j = (j.known, behind a xs j.linked)
   where
-    behind : (b : Leg) (bs : List Leg) → joined p b bs ≡ true → All (λ c. in_plan c p.legs ≡ true) bs
+    behind : (b : Leg) (bs : List Leg) → joined p b bs ≡ true → AllByRecursion (λ c. in_plan c p.legs ≡ true) bs
     behind b [] e = tt
     behind b (c ∷ cs) e = let l = joined_says p b c cs e in (l.known, behind c cs l.linked)
 

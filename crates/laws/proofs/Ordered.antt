@@ -3,7 +3,7 @@ use Rattle.std.proofs.Common.{◌≡◌, ℕ, true, ◌&&◌, ◌⊎◌, List, [
 use mathlib.Core.List.{reverse_aux, reverse-reverse}
 use Rattle.std.proofs.lemmas.Bool.{cases_Bool, false≢true, or_cases, and_parts}
 use Rattle.std.proofs.lemmas.Bool.Decides.{nat_tests}
-use Rattle.std.specs.List.{AllByRecursion as All}
+use Rattle.std.specs.List.{AllByRecursion}
 use Rattle.plan.specs.declared.leg.Leg.{Leg}
 use Rattle.journey.specs.Journeys.{same_leg, in_plan, Reached, NamedOnce}
 use Rattle.journey.specs.Journeys.Reached.{without_boat, by_legs}
@@ -37,7 +37,7 @@ precedes_apart (x ∷ xs) (y ∷ ys) e f = by (precedes_apart xs ys) (or_cases (
 
 -- Of two lists of legs of the plan one comes first, or they are the same list.
 pub precedes_total : (ls : List Leg) → NamedOnce ls → (xs ys : List Leg) →
-    All (λ x. in_plan x ls ≡ true) xs → All (λ y. in_plan y ls ≡ true) ys →
+    AllByRecursion (λ x. in_plan x ls ≡ true) xs → AllByRecursion (λ y. in_plan y ls ≡ true) ys →
     (xs ≡ ys) ⊎ ((precedes xs ys ≡ true) ⊎ (precedes ys xs ≡ true))
 precedes_total ls once [] [] i j = inl refl
 precedes_total ls once [] (y ∷ ys) i j = inr (inl (precedes_none y ys))
@@ -56,7 +56,7 @@ precedes_total ls once (x ∷ xs) (y ∷ ys) i j =
     alike is (inr (inr e)) = inr (inr (subst (λ (z : Leg). precedes (z ∷ ys) (x ∷ xs) ≡ true) is (precedes_on x ys xs e)))
 
 -- ---- journeys, from their last leg back
-all_onto : (P : Leg → Type 0) (xs ys : List Leg) → All P xs → All P ys → All P (reverse_aux xs ys)
+all_onto : (P : Leg → Type 0) (xs ys : List Leg) → AllByRecursion P xs → AllByRecursion P ys → AllByRecursion P (reverse_aux xs ys)
 all_onto P [] ys a b = b
 all_onto P (x ∷ xs) ys a b = all_onto P xs (x ∷ ys) a.1 (a.0, b)
 

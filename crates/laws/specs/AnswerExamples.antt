@@ -1,6 +1,6 @@
 -- A plan of four piers, and the answers to some questions of it.
 use Rattle.std.specs.Prelude.{ℕ, List, [], ◌∷◌}
-use Rattle.std.specs.List.{AllByRecursion as All}
+use Rattle.std.specs.List.{AllByRecursion}
 use Rattle.plan.specs.declared.leg.Leg.{Leg}
 use Rattle.plan.specs.Legs.{Plan}
 use Rattle.marks.specs.declared.mark.Mark.{Mark}
@@ -56,4 +56,4 @@ abbrev pub RowStands : Row → Type 0
 RowStands r = Answer r.plan r.most (asked 0 9 r.to) r.marks
 
 abbrev pub TableStands : Type 0
-TableStands = All RowStands table
+TableStands = AllByRecursion RowStands table

@@ -1,6 +1,6 @@
 -- What happens to the plan of four piers on a day, and the answers after each update.
 use Rattle.std.specs.Prelude.{◌≡◌, ℕ, List, [], ◌∷◌, map, take}
-use Rattle.std.specs.List.{AllByRecursion as All}
+use Rattle.std.specs.List.{AllByRecursion}
 use Rattle.plan.specs.Legs.{Plan}
 use Rattle.marks.specs.declared.mark.Mark.{Mark}
 use Rattle.rounds.specs.Answers.{Answer}
@@ -51,4 +51,4 @@ pub record DayRowStands (r : DayRow) : Type 0 where
 -- no update is refused, and each row stands
 pub record DayTableStands : Type 0 where
   pub all_done : done four_piers (map Apply updates) ≡ updates
-  pub rows : All DayRowStands day_table
+  pub rows : AllByRecursion DayRowStands day_table

@@ -1,6 +1,6 @@
 -- The laws of itineraries: each mark of an answer has exactly one, which names no leg twice.
 use Rattle.std.specs.Prelude.{◌≡◌, ℕ, true, false, ◌⊎◌, List, ◌≢◌}
-use Rattle.std.specs.List.{AllByRecursion as All}
+use Rattle.std.specs.List.{AllByRecursion}
 use Rattle.plan.specs.declared.leg.Leg.{Leg}
 use Rattle.plan.specs.Legs.{Plan}
 use Rattle.journey.specs.declared.question.Question.{Question}
@@ -21,8 +21,8 @@ OneItinerary =
 abbrev pub JourneysOrdered : Type 0
 JourneysOrdered =
     ((legs others : List Leg) → sooner_named legs others ≡ true → sooner_named others legs ≢ true)
-    × ((p : Plan) (legs others : List Leg) → NamedOnce p.legs → All (λ a. in_plan a p.legs ≡ true) legs →
-    All (λ a. in_plan a p.legs ≡ true) others →
+    × ((p : Plan) (legs others : List Leg) → NamedOnce p.legs → AllByRecursion (λ a. in_plan a p.legs ≡ true) legs →
+    AllByRecursion (λ a. in_plan a p.legs ≡ true) others →
     (legs ≡ others) ⊎ ((sooner_named legs others ≡ true) ⊎ (sooner_named others legs ≡ true)))
 
 -- For each mark of an answer there is an itinerary, in a plan of any size in which run and number name one leg.

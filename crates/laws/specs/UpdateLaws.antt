@@ -1,7 +1,7 @@
 -- The laws of updates: delays add up, an extra leg makes nobody worse off and a cancelled one nobody better, and what
 -- still goes is a journey.
 use Rattle.std.specs.Prelude.{◌≡◌, ℕ, ◌+◌, true, List, ◌∷◌, map, Ok}
-use Rattle.std.specs.List.{AllByRecursion as All}
+use Rattle.std.specs.List.{AllByRecursion}
 use Rattle.plan.specs.declared.leg.Leg.{Leg}
 use Rattle.plan.specs.Legs.{Plan}
 use Rattle.journey.specs.declared.name.LegName.{LegName}
@@ -62,7 +62,7 @@ CancelledLeg = (p : Plan) (r k : ℕ) (q : Question) → CancelAddsNone p r k q
 
 -- legs of the plan as it is now have these names
 pub record LegsNow (p : Plan) (names : List LegName) (first : Leg) (rest : List Leg) : Type 0 where
-  pub known : All (λ a. in_plan a p.legs ≡ true) (first ∷ rest)
+  pub known : AllByRecursion (λ a. in_plan a p.legs ≡ true) (first ∷ rest)
   pub named : names ≡ map name (first ∷ rest)
 
 -- the legs that have these names now are a journey, and where it ends at a pier it is there with its boats
