@@ -153,7 +153,7 @@ static bool serve(struct file *file, struct plan *plan)
         } else if (kind == 4) {
             still(file, plan);
         } else if (kind > 4) {
-            fprintf(stderr, "office: byte %zu: there is no request %d\n", start, kind);
+            fprintf(stderr, "office: byte %zu: there is no request %d yet\n", start, kind);
             return false;
         } else {
             uint64_t numbers[6];

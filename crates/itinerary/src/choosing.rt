@@ -5,7 +5,7 @@ ghost use Rattle.journey.specs.Journeys.{NamedOnce};
 ghost use Rattle.rounds.specs.Rows.{plan_of, Lies};
 ghost use Rattle.rounds.specs.Answers.{Asked};
 ghost use Rattle.itinerary.specs.Arrivals.{Arriving};
-ghost use Rattle.itinerary.specs.Tracing.{prior, Final, Chosen, first_of, Within, Stepped};
+ghost use Rattle.itinerary.specs.Tracing.{prior, Final, Chosen, first_of, pick, Within, Stepped};
 ghost use Rattle.itinerary.specs.Searching.{ThereIs, pier_of, Fits, FitsAt};
 
 use crate::arrivals::Arrivals;
@@ -24,22 +24,33 @@ pub(crate) enum Sought {
     Before(usize),
 }
 
+// Of a place and the best so far the one whose leg comes first.
+fn better(layout: Layout, best: Option<usize>, x: usize) -> Option<usize>
+    requires within { x < length layout.legs.now }
+    requires best { Within best (length layout.legs.now) }
+    ensures { result ≡ pick (plan_of layout.entry) best x }
+{
+    match best {
+        None => Some(x),
+        Some(y) => {
+            if before(leg_at(layout.legs, x), leg_at(layout.legs, y)) {
+                Some(x)
+            } else {
+                Some(y)
+            }
+        }
+    }
+}
+
 // Of two places that there may be the one whose leg comes first.
 fn first_of(layout: Layout, best: Option<usize>, found: Option<usize>) -> Option<usize>
     requires best { Within best (length layout.legs.now) }
     requires found { Within found (length layout.legs.now) }
     ensures { result ≡ first_of (plan_of layout.entry) best found }
 {
-    let Some(x) = found else {
-        return best;
-    };
-    let Some(y) = best else {
-        return found;
-    };
-    if before(leg_at(layout.legs, x), leg_at(layout.legs, y)) {
-        found
-    } else {
-        best
+    match found {
+        None => best,
+        Some(x) => better(layout, best, x),
     }
 }
 

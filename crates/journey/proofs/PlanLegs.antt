@@ -2,7 +2,7 @@
 use Rattle.std.proofs.Common.{◌≡◌, ℕ, zero, suc, ◌<◌, true, false, ◌||◌, ◌⊎◌, List, [], ◌∷◌, ◌++◌, length, get_or, sym, refl, ◌∙◌, subst, inl, inr, ⊎_elim, arith}
 use Rattle.std.proofs.lemmas.Bool.{false≢true, or_cases, or_left, or_right}
 use Rattle.std.proofs.lemmas.Bool.Decides.{nat_tests}
-use Rattle.std.specs.List.{AllByRecursion as All}
+use Rattle.std.specs.List.{AllByRecursion}
 use Rattle.plan.specs.declared.leg.Leg.{Leg}
 use Rattle.plan.specs.Legs.{Plan, runs, no_leg, leg}
 use Rattle.journey.specs.Journeys.{same_leg, in_plan}
@@ -43,7 +43,7 @@ unfolding in_plan
 in_plan_cases a b bs e = ⊎_elim (λ h. inl (same_leg_is a b h)) inr (or_cases (same_leg a b) (in_plan a bs) e)
 
 -- what holds of every leg of a list holds of a leg that is in it
-pub in_plan_all : (P : Leg → Type 0) (a : Leg) (ls : List Leg) → All P ls → in_plan a ls ≡ true → P a
+pub in_plan_all : (P : Leg → Type 0) (a : Leg) (ls : List Leg) → AllByRecursion P ls → in_plan a ls ≡ true → P a
 in_plan_all P a [] h e = absurd (false≢true (sym (in_plan_none a) ∙ e))
 in_plan_all P a (b ∷ bs) h e =
     ⊎_elim (λ i. subst P (sym i) h.0) (λ i. in_plan_all P a bs h.1 i) (in_plan_cases a b bs e)

@@ -25,7 +25,10 @@ impl fmt::Display for Fault {
 
     fn fmt<W: fmt::Write>(&self, f: &mut fmt::Formatter<W>) -> fmt::Result {
         match *self {
-            Fault::Unknown { place, byte } => write!(f, "byte {place}: there is no request {byte}"),
+            Fault::Unknown { place, byte } => write!(
+                f,
+                "byte {place}: there is no request {byte} yet"
+            ),
             Fault::CutShort { place } => write!(f, "byte {place}: the update is cut short"),
         }
     }

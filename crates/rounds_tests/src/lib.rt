@@ -4,7 +4,6 @@
 #[cfg(test)]
 mod tests {
     use rounds::answer::answer;
-    use std::process::Abort;
 
     // Four piers with changes of 2, 3, 2 and 0 minutes; at pier 1 a change takes longer than run 0 waits there.
     const FOUR: [u64; 40] = [
@@ -24,7 +23,7 @@ mod tests {
         expected: [u64; 7],
     }
 
-    fn answers(rt: &impl Abort, plan: &[u64], cases: &[Case]) {
+    fn answers(rt: &HostRuntime, plan: &[u64], cases: &[Case]) {
         for case in cases {
             let mut out = [99u64; 20];
             let _ = answer(plan, &case.question, &mut out);
