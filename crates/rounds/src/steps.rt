@@ -29,16 +29,15 @@ pub fn walk_at(walks: &[Walk], j: usize) -> Walk
     walks[j]
 }
 
-// Somebody stays aboard for the leg at `i`, which has no level yet, from the leg right before it. Where nobody may, the
-// leg itself is looked at: so there is no branch to guess wrong.
+// Somebody stays aboard for the leg at `i` from the leg right before it. Where nobody may, the leg itself is looked at:
+// so there is no branch to guess wrong.
 fn is_stayed_for(joins: &[bool], level: &[u8], i: usize) -> bool
     requires first { slice_index_or joins.now i false ≡ true → 1 ≤ i }
     requires joins { i < length joins.now }
     requires levels { i < length level.now }
-    requires blank { slice_index level.now i ≡ 0 }
     ensures { result ≡ (slice_index_or joins.now i false && nat_lt 0 (slice_index level.now (i - 1))) }
 {
-    level[i - joins[i] as usize] > 0
+    joins[i] & (level[i - joins[i] as usize] > 0)
 }
 
 // With so many boats a leg of this seed can be boarded from outside. No seed is 0, which wraps.
@@ -72,7 +71,6 @@ pub(crate) fn opens(
     requires laid { Lies layout }
     requires within { i < length layout.legs.now }
     requires going { runs (slice_index_or layout.legs.now i no_leg) ≡ true }
-    requires blank { slice_index level.now i ≡ 0 }
     requires seeds { length seed.now ≡ length layout.legs.now }
     requires levels { length level.now ≡ length layout.legs.now }
     requires piers { length ready.now ≡ length layout.change.now }

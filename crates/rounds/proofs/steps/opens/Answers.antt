@@ -8,7 +8,6 @@ is_stayed_for-requires c = record {
   first = λ e. omega (arith, ((c.requires.laid.joined c.args.i c.requires.within).given e).1);
   joins = omega (arith, c.requires.laid.joins_long);
   levels = omega arith;
-  blank = c.requires.blank;
 }
 
 pub returns-then-is_stayed_for : goal.returns-then-is_stayed_for
