@@ -1,9 +1,8 @@
 -- What C is told of a reply: one number.
-use Rattle.std.specs.Prelude.{◌≡◌, ℕ, ◌+◌, ◌*◌, min}
+use Rattle.std.specs.Prelude.{◌≡◌, ℕ, ◌+◌, ◌*◌, min, Ok, Err}
 use Rattle.plan.specs.declared.refusal.Refusal.{Refusal}
 use Rattle.plan.specs.Refusals.{number_of, place_of}
-use Rattle.rounds.specs.declared.reply.Reply.{Reply}
-use Rattle.rounds.specs.declared.reply.Reply.TheVariants.{Done, Refused}
+use Rattle.rounds.specs.Entry.{Reply}
 
 -- The refusal's number stands above the forty low bits and its place in them. A place that does not fit there is told as
 -- the highest that does, so that the number can always be read back.
@@ -12,8 +11,8 @@ refusal_code e = number_of e * 1099511627776 + min (place_of e) 1099511627775
 
 -- 0 where it is done
 abbrev pub code_of : Reply → ℕ
-code_of (Done n) = 0
-code_of (Refused e) = refusal_code e
+code_of (Ok n) = 0
+code_of (Err e) = refusal_code e
 
 -- the number is the code of a reply of which this holds
 pub record Coded (R : Reply → Type 0) (n : ℕ) : Type 0 where

@@ -3,7 +3,6 @@ ghost use Rattle.std.specs.Prelude.{◌≡◌};
 ghost use Rattle.cabi.specs.Codes.{refusal_code, code_of};
 
 use plan::refusal::Refusal;
-use rounds::reply::Reply;
 
 // The forty low bits are the place: a number above them, and the highest place that they hold.
 const NUMBER: u64 = 1_099_511_627_776;
@@ -17,11 +16,11 @@ pub fn refusal_code(refusal: Refusal) -> u64
 }
 
 // 0 where it is done, else the refusal's number and place.
-pub fn code(reply: Reply) -> u64
+pub fn code(reply: Result<u64, Refusal>) -> u64
     ensures { result ≡ code_of reply }
 {
     match reply {
-        Reply::Done(_) => 0,
-        Reply::Refused(refusal) => refusal_code(refusal),
+        Ok(_) => 0,
+        Err(refusal) => refusal_code(refusal),
     }
 }

@@ -3,23 +3,20 @@ ghost use Rattle.std.specs.Prelude.{◌≡◌};
 ghost use Rattle.cabi.specs.WordCodes.{word_code, word_left, WordTold};
 
 use crate::code::refusal_code;
+use plan::refusal::Refusal;
 use updates::still::{Word, still};
 
 // Says the word: 0 and the lent number, or the refusal, and then that number is as it was.
-fn say(said: Word, word: &mut u64) -> u64
+fn say(said: Result<Word, Refusal>, word: &mut u64) -> u64
     ensures code { result ≡ word_code said }
     ensures left { word.new ≡ word_left said word.old }
 {
     match said {
-        Word::Still => {
-            *word = 1;
+        Ok(goes) => {
+            *word = u64::from(goes == Word::Still);
             0
         }
-        Word::Gone => {
-            *word = 0;
-            0
-        }
-        Word::Refused(refusal) => refusal_code(refusal),
+        Err(refusal) => refusal_code(refusal),
     }
 }
 

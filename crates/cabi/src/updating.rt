@@ -6,22 +6,23 @@ ghost use Rattle.cabi.specs.Codes.{Coded};
 
 use crate::code::code;
 use plan::leg::Leg;
+use plan::name::LegName;
 use updates::applying::{cancel, delay, extra};
 
 // The legs of a run from a number on are so many minutes later.
 #[unsafe(no_mangle)]
 pub extern "C" fn yew_delay(plan: &mut [u64], run: u64, number: u64, minutes: u64) -> u64
-    ensures { Coded (λ r. Updated plan.old (Delay run number minutes) r plan.new) result }
+    ensures { Coded (λ r. Updated plan.old (Delay (record { run = run; number = number }) minutes) r plan.new) result }
 {
-    code(delay(plan, run, number, minutes))
+    code(delay(plan, LegName { run, number }, minutes))
 }
 
 // A leg is gone.
 #[unsafe(no_mangle)]
 pub extern "C" fn yew_cancel(plan: &mut [u64], run: u64, number: u64) -> u64
-    ensures { Coded (λ r. Updated plan.old (Cancel run number) r plan.new) result }
+    ensures { Coded (λ r. Updated plan.old (Cancel (record { run = run; number = number })) r plan.new) result }
 {
-    code(cancel(plan, run, number))
+    code(cancel(plan, LegName { run, number }))
 }
 
 // A leg more.

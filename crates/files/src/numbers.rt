@@ -4,7 +4,7 @@ ghost use Rattle.files.specs.Numbers.{number_at, numbers_in, plan_size, plan_wor
 
 use std::alloc::{AllocError, Global};
 
-// The number whose four bytes begin at a place.
+// The number whose four bytes begin at a place: what a file's parts mean is told by place.
 pub fn number_at(bytes: &[u8], at: usize) -> u64
     requires { at + 4 ≤ length bytes.now }
     ensures value { result ≡ number_at bytes.now at }
@@ -17,11 +17,11 @@ pub fn number_at(bytes: &[u8], at: usize) -> u64
 pub fn numbers(heap: Global, bytes: &[u8], most: usize) -> Result<Vec<u64>, AllocError>
     ensures { IfOk result (λ v. v.items ≡ numbers_in (min most (length bytes.now / 4)) bytes.now) }
 {
-    let mut all = Vec::new(heap);
-    for i in 0..most.min(bytes.len() / 4) {
-        all.push(number_at(bytes, 4 * i))?;
-    }
-    Ok(all)
+    bytes
+        .chunks_exact(4)
+        .map(|number| number_at(number, 0))
+        .take(most)
+        .collect(heap)
 }
 
 // How many numbers the plan takes that a file begins with, by its counts.

@@ -9,7 +9,8 @@ use plan::checking::check;
 use plan::refusal::Refusal;
 use std::alloc::{AllocError, Global};
 
-// The words of the plan, if it may be used, or its refusal.
+// The words of the plan, if it may be used, or its refusal, which is what is told, and not a failure: only memory can be
+// wanting.
 pub fn open_plan(heap: Global, bytes: &[u8]) -> Result<Result<Vec<u64>, Refusal>, AllocError>
     ensures { IfOk result (λ o. elim o [ Ok v ↦ (v.items ≡ plan_words bytes.now) × Usable v.items × (sound_words v.items ≡ true) | Err e ↦ plan_checked (plan_words bytes.now) ≡ Err e ]) }
 {

@@ -1,10 +1,11 @@
 -- Journeys in a file: from, time, to and count of legs, then run and number of each, four bytes a number; and how the
 -- check of one is told.
-use Rattle.std.specs.Prelude.{◌≡◌, ℕ, zero, suc, ◌+◌, ◌*◌, ◌<◌, ◌≤◌, cond, List, [], ◌∷◌, ◌++◌, length, drop, Some, None, vec_items, codes, decimal, Option, nat_lt}
+use Rattle.std.specs.Prelude.{◌≡◌, ℕ, zero, suc, ◌+◌, ◌*◌, ◌<◌, ◌≤◌, cond, List, [], ◌∷◌, length, drop, Some, None, Ok, Err, vec_items, Option, Result, nat_lt}
 use Rattle.files.specs.Numbers.{number_at}
-use Rattle.journey.specs.declared.name.LegName.{LegName}
-use Rattle.journey.specs.declared.checking.Checked.{Checked}
-use Rattle.journey.specs.declared.checking.Checked.TheVariants.{Reaches, Broken}
+use Rattle.plan.specs.declared.name.LegName.{LegName}
+use Rattle.journey.specs.declared.checking.Broken.{Broken}
+use Rattle.journey.specs.Checked.{broken_text}
+use Rattle.marks.specs.declared.mark.Mark.{Mark}
 use Rattle.marks.specs.Texts.{mark_text}
 use Rattle.inspect.specs.declared.reading.Told.{Told}
 
@@ -20,11 +21,11 @@ told_size bs = cond (nat_lt (length bs) 16) 16 (16 + 8 * number_at bs 12)
 -- the journey that these bytes begin with
 pub record ToldIn (bs : List ℕ) (j : Told) : Type 0 where
   pub whole : told_size bs ≤ length bs
-  pub from : j.from ≡ number_at bs 0
-  pub time : j.time ≡ number_at bs 4
-  pub to : j.to ≡ number_at bs 8
+  pub from : j.question.from ≡ number_at bs 0
+  pub time : j.question.time ≡ number_at bs 4
+  pub to : j.question.to ≡ number_at bs 8
   pub legs : vec_items j.legs ≡ names_in (number_at bs 12) (drop 16 bs)
-  pub in_time : j.time < 4294967296
+  pub in_time : j.question.time < 4294967296
 
 -- or it is cut short
 abbrev pub Read : List ℕ → Option Told → Type 0
@@ -32,6 +33,6 @@ Read bs None = length bs < told_size bs
 Read bs (Some j) = ToldIn bs j
 
 -- `45/2`, or `broken at 1`
-abbrev pub checked_text : Checked → List ℕ
-checked_text (Reaches u k) = mark_text (record { arrival = u; boats = k })
-checked_text (Broken i) = codes "broken at " ++ decimal i
+abbrev pub checked_text : Result Mark Broken → List ℕ
+checked_text (Ok m) = mark_text m
+checked_text (Err b) = broken_text b

@@ -14,7 +14,7 @@ use files::opening::open_plan;
 use journey::checking::check_journey;
 use plan::timetable::Timetable;
 use reading::read_told;
-use telling::line;
+use telling::Verdict;
 
 const HELP: &str = "usage: inspect [FILE]
 
@@ -33,13 +33,13 @@ fn check_all(rt: &HostRuntime, words: &[u64], bytes: &[u8], start: usize) -> any
 {
     let table = Timetable::of(words);
     let mut at = start;
+    // By place, since a journey that is cut short is told by its byte.
     while at < bytes.len() {
         let Some(told) = read_told(rt.alloc(), &bytes[at..])? else {
             let _ = eprintln!(rt; "inspect: the journey at byte {at} is cut short");
             return Err(anyhow!("a journey is cut short"));
         };
-        let checked = check_journey(table, told.from, told.time, told.to, &told.legs);
-        rt.println(line(rt.alloc(), checked)?)?;
+        rt.println(Verdict(check_journey(table, told.question, &told.legs)))?;
         at += 16 + 8 * told.legs.len();
     }
     Ok(())

@@ -3,15 +3,14 @@ ghost use Rattle.std.specs.Prelude.{◌≡◌, ◌+◌, ◌*◌, ◌≤◌, leng
 ghost use Rattle.inspect.specs.Told.{names_in, Read};
 
 use files::numbers::number_at;
-use journey::name::LegName;
+use journey::question::Question;
+use plan::name::LegName;
 use std::alloc::{AllocError, Global};
 
-// A journey that somebody tells: from where and when, to where, and by which legs.
+// A journey that somebody tells: the question that it is to answer, and the legs that it goes by.
 #[derive(Drop)]
 pub struct Told {
-    pub from: u64,
-    pub time: u64,
-    pub to: u64,
+    pub question: Question,
     pub legs: Vec<LegName>,
 }
 
@@ -20,13 +19,13 @@ fn read_names(heap: Global, bytes: &[u8], count: usize) -> Result<Vec<LegName>, 
     requires { 8 * count ≤ length bytes.now }
     ensures { IfOk result (λ v. v.items ≡ names_in count bytes.now) }
 {
-    let mut names = Vec::new(heap);
-    for i in 0..count {
-        let run = number_at(bytes, 8 * i);
-        let number = number_at(bytes, 8 * i + 4);
-        names.push(LegName { run, number })?;
-    }
-    Ok(names)
+    bytes[..8 * count]
+        .chunks_exact(8)
+        .map(|name| LegName {
+            run: number_at(name, 0),
+            number: number_at(name, 4),
+        })
+        .collect(heap)
 }
 
 // The journey that these bytes begin with, or nothing where they are cut short.
@@ -40,11 +39,11 @@ pub fn read_told(heap: Global, bytes: &[u8]) -> Result<Option<Told>, AllocError>
     if bytes.len() < 16 + 8 * count {
         return Ok(None);
     }
-    let legs = read_names(heap, &bytes[16..], count)?;
-    Ok(Some(Told {
+    let question = Question {
         from: number_at(bytes, 0),
         time: number_at(bytes, 4),
         to: number_at(bytes, 8),
-        legs,
-    }))
+    };
+    let legs = read_names(heap, &bytes[16..], count)?;
+    Ok(Some(Told { question, legs }))
 }

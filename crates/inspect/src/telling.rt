@@ -1,20 +1,22 @@
 // How the check of a journey is told.
-ghost use Rattle.std.specs.Prelude.{◌≡◌, IfOk, string_bytes};
+ghost use Rattle.std.specs.Prelude.{Some};
 ghost use Rattle.inspect.specs.Told.{checked_text};
 
-use journey::checking::Checked;
+use journey::checking::Broken;
 use marks::mark::Mark;
-use std::alloc::{AllocError, Global};
+use std::fmt;
 
-// The mark that the journey reaches, `45/2`, or the first leg at which it breaks, `broken at 1`.
-pub fn line(heap: Global, checked: Checked) -> Result<String, AllocError>
-    ensures { IfOk result (λ s. string_bytes s ≡ checked_text checked) }
-{
-    match checked {
-        Checked::Reaches { arrival, boats } => {
-            let mark = Mark { arrival, boats };
-            format!(in heap; "{mark}")
+// The mark that a journey reaches, `45/2`, or where it breaks, `broken at 1`.
+#[derive(Clone, Copy)]
+pub struct Verdict(pub Result<Mark, Broken>);
+
+impl fmt::Display for Verdict {
+    ghost output = { λ verdict. Some (checked_text verdict.0) };
+
+    fn fmt<W: fmt::Write>(&self, f: &mut fmt::Formatter<W>) -> fmt::Result {
+        match self.0 {
+            Ok(mark) => write!(f, "{mark}"),
+            Err(broken) => write!(f, "{broken}"),
         }
-        Checked::Broken(place) => format!(in heap; "broken at {place}"),
     }
 }

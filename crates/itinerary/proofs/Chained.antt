@@ -7,28 +7,28 @@ use Rattle.journey.specs.Steps.{leads, walks_to}
 use Rattle.journey.specs.Journeys.{Ends}
 use Rattle.journey.specs.Journeys.Ends.{at_once, on_foot}
 use Rattle.journey.proofs.Walking.{walked, walked_back}
-use Rattle.rounds.specs.Layout.{Links, WalkAt, walk_from}
-use Rattle.rounds.proofs.Linking.{chains_of, chain_at, walk_at, chain_last, chain_next, chain_which}
+use Rattle.rounds.specs.Layout.{Chains, ChainAt, walk_from}
+use Rattle.rounds.proofs.Linking.{chain_last, chain_next, chain_which}
 
 -- no walk of the pier s at the place `at` or behind it is such a one
 pub record Missed (ws : List Walk) (P : ℕ → Type 0) (s at : ℕ) : Type 0 where
-  pub here : WalkAt ws s at
+  pub here : ChainAt (walk_from ws) (length ws) s at
   pub none : (i : ℕ) → at ≤ i → i < length ws → (get_or ws i no_walk).from ≡ s → P i → ⊥
 
-module _ {ws : List Walk} {n : ℕ} {first link : List ℕ} (ls : Links ws n first link (length ws))
+module _ {ws : List Walk} {n : ℕ} {first link : List ℕ} (ls : Chains (walk_from ws) (length ws) n first link (length ws))
     {P : ℕ → Type 0} {s : ℕ} where
   pub missed_none : s < n → Missed ws P s (get_or first s 0)
   missed_none h = record {
     here = ls.first_at s h;
-    none = λ i l r e x. chain_last (walk_from ws) (chains_of ls) i l r e;
+    none = λ i l r e x. chain_last (walk_from ws) ls i l r e;
   }
 
   -- the walk at v, one before the place `at`, is no such one either
   pub missed_more : (v : ℕ) {at : ℕ} → suc v ≡ at → Missed ws P s at → (P v → ⊥) → Missed ws P s (get_or link v 0)
   missed_more v {at} next m not = record {
-    here = walk_at (chain_next (walk_from ws) (chains_of ls) v next (chain_at m.here));
+    here = chain_next (walk_from ws) ls v next m.here;
     none = λ i l r e x. ⊎_elim (λ old. m.none i old r e x) (λ same. not (subst P (sym same) x))
-        (chain_which (walk_from ws) (chains_of ls) v next (chain_at m.here) i l e);
+        (chain_which (walk_from ws) ls v next m.here i l e);
   }
 
 -- the walk at i leads there in time

@@ -1,6 +1,7 @@
 -- Levels along a journey: each leg's level is exactly the boats so far.
-use Rattle.std.proofs.Common.{◌≡◌, ℕ, suc, ◌+◌, ◌<◌, ◌≤◌, true, ◌&&◌, eqb, ltb, List, ◌∷◌, length, sym, ap, subst, ⊎_elim, arith}
-use Rattle.std.proofs.lemmas.Bool.{cases_lt, or_cases, or_left, or_right, and_parts, and_from, eqb-true, eq-eqb, lt-ltb, ltb-true}
+use Rattle.std.proofs.Common.{◌≡◌, ℕ, suc, ◌<◌, ◌≤◌, true, List, ◌∷◌, length, sym, ap, subst, ⊎_elim, arith}
+use Rattle.std.proofs.lemmas.Bool.{cases_lt}
+use Rattle.std.proofs.lemmas.Bool.Decides.{nat_tests}
 use Rattle.plan.specs.declared.leg.Leg.{Leg}
 use Rattle.plan.specs.Legs.{Plan, leg}
 use Rattle.journey.specs.declared.question.Question.{Question}
@@ -88,7 +89,7 @@ module _ {p : Plan} {s t most : ℕ} {level : List ℕ} (ls : Levels (Aboard p s
             place = y;
             within = w.within;
             is = w.is;
-            good = or_left _ _ (and_from _ _ (eq-eqb _ _ (sym same)) st);
+            good = grind (arith, nat_tests);
             on = subst (λ (k : ℕ). Trail p s t k c zs) same on;
           }
 
@@ -102,23 +103,17 @@ module _ {p : Plan} {s t most : ℕ} {level : List ℕ} (ls : Levels (Aboard p s
           let bd = subst (λ (z : Leg). boards p z (leg p i) ≡ true) (sym w.is) e in
           let high = board_level i y h w.within a low.0 (omega (arith, low.1)) bd in
           let same : j ≡ level_at level y = omega (arith, low.1) in
-          let next : level_at level i ≡ level_at level y + 1 = omega arith in
           record {
             place = y;
             within = w.within;
             is = w.is;
-            good = or_right (eqb (level_at level y) (level_at level i) && stays (leg p y) (leg p i)) _
-                (and_from _ _ (lt-ltb _ _ low.0) (and_from _ _ (eq-eqb _ _ next) bd));
+            good = grind (arith, nat_tests);
             on = subst (λ (k : ℕ). Trail p s t k c zs) same on;
           }
 
   -- a leg that the search may choose has a level
   pub prior_some : (i x : ℕ) → 0 < level_at level i → Prior p level i x → 0 < level_at level x
-  prior_some i x a e =
-      ⊎_elim
-      (λ g. omega (arith, eqb-true _ _ (and_parts (eqb (level_at level x) (level_at level i)) _ g).0))
-      (λ g. ltb-true _ _ (and_parts (ltb 0 (level_at level x)) _ g).0)
-      (or_cases (eqb (level_at level x) (level_at level i) && stays (leg p x) (leg p i)) _ e)
+  prior_some i x a e = grind (arith, nat_tests)
 
 -- The last leg of a journey that reaches a mark of the answer has exactly the mark's boats as its level. With fewer boats
 -- one would be there at the same time, and some mark of the answer would be no worse than that: no worse than the mark,

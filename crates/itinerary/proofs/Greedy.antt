@@ -1,11 +1,12 @@
 -- The greedy search from the last leg back finds the journey that comes first.
-use Rattle.std.proofs.Common.{◌≡◌, ℕ, suc, ◌+◌, ◌<◌, true, false, ◌&&◌, eqb, ltb, ◌⊎◌, List, [], ◌∷◌, reverse, length, sym, refl, ap, ◌∙◌, subst, inl, inr, ⊎_elim, arith}
+use Rattle.std.proofs.Common.{◌≡◌, ℕ, suc, ◌<◌, true, false, ◌⊎◌, List, [], ◌∷◌, reverse, length, sym, refl, ap, ◌∙◌, subst, inl, inr, ⊎_elim, arith}
 use mathlib.Core.List.{reverse_aux, reverse-reverse}
-use Rattle.std.proofs.lemmas.Bool.{cases_Bool, both_ways, or_cases, and_parts, and_from, eqb-true, eq-eqb}
+use Rattle.std.proofs.lemmas.Bool.{cases_Bool}
+use Rattle.std.proofs.lemmas.Bool.Decides.{nat_tests}
 use Rattle.plan.specs.declared.leg.Leg.{Leg}
 use Rattle.plan.specs.Legs.{Plan, leg}
 use Rattle.journey.specs.declared.question.Question.{Question}
-use Rattle.journey.specs.Steps.{stays, boards}
+use Rattle.journey.specs.Steps.{stays, boards, begins}
 use Rattle.journey.specs.Journeys.{Reached}
 use Rattle.journey.specs.Journeys.Reached.{without_boat, by_legs}
 use Rattle.journey.specs.Aboard.{Aboard}
@@ -40,11 +41,11 @@ module _ {p : Plan} (q : Question) {most : ℕ} {level : List ℕ}
   pub first_none : (i : ℕ) → i < length p.legs → 0 < level_at level i → starts p q level i ≡ true →
       FirstTrail p q.from q.time (level_at level i) (leg p i) []
   first_none i h l e =
-      let parts = and_parts (eqb (level_at level i) 1) _ e in
-      let one = sym (eqb-true _ _ parts.0) in
+      let one : 1 ≡ level_at level i = grind (arith, nat_tests) in
+      let begun : begins p q.from q.time (leg p i) ≡ true = grind (arith, nat_tests) in
       record {
         on = subst (λ (k : ℕ). Trail p q.from q.time k (leg p i) []) one
-            (trail_start parts.1 (level_usable ls i h l));
+            (trail_start begun (level_usable ls i h l));
         first = λ ys x. after ys;
       }
     where
@@ -61,7 +62,7 @@ module _ {p : Plan} (q : Question) {most : ℕ} {level : List ℕ}
           (x : ℕ) × (x < length p.legs) × Prior p level i x
       by [] x =
           let (one, e) = trail_none x in
-          absurd (both_ways (starts p q level i) none (and_from (eqb (level_at level i) 1) _ (eq-eqb _ _ one) e))
+          absurd (grind (arith, nat_tests))
       by (c ∷ zs) x = let w = before_leg ls i h l c zs x in (w.place, w.within, w.good)
 
   -- The greedy choice is the first. Every other journey that ends with the leg at i has a leg before it that could have
@@ -72,44 +73,33 @@ module _ {p : Plan} (q : Question) {most : ℕ} {level : List ℕ}
       FirstTrail p q.from q.time (level_at level x) (leg p x) xs →
       FirstTrail p q.from q.time (level_at level i) (leg p i) (leg p x ∷ xs)
   greedy_first i x xs h l none c f = record {
-    on = ⊎_elim (λ g. by_stay g) (λ g. by_boat g)
-        (or_cases (eqb (level_at level x) (level_at level i) && stays (leg p x) (leg p i)) _ c.good);
+    on = ⊎_elim by_stay by_boat (cases_Bool (stays (leg p x) (leg p i)));
     first = λ ys y. others ys y;
   }
     where
       some : 0 < level_at level x
       some = prior_some ls i x l c.good
 
-      by_stay : (eqb (level_at level x) (level_at level i) && stays (leg p x) (leg p i)) ≡ true →
-          Trail p q.from q.time (level_at level i) (leg p i) (leg p x ∷ xs)
-      by_stay g =
-          let parts = and_parts (eqb (level_at level x) (level_at level i)) _ g in
-          let on = subst (λ (k : ℕ). Trail p q.from q.time k (leg p x) xs) (eqb-true _ _ parts.0) f.on in
-          trail_stay on parts.1 (level_usable ls i h l)
+      by_stay : stays (leg p x) (leg p i) ≡ true → Trail p q.from q.time (level_at level i) (leg p i) (leg p x ∷ xs)
+      by_stay e =
+          let good = c.good in
+          let low = stay_level ls i x h c.within l some e in
+          let same : level_at level x ≡ level_at level i = grind (arith, nat_tests) in
+          trail_stay (subst (λ (k : ℕ). Trail p q.from q.time k (leg p x) xs) same f.on) e (level_usable ls i h l)
 
-      by_boat : (ltb 0 (level_at level x)
-          && (eqb (level_at level i) (level_at level x + 1) && boards p (leg p x) (leg p i))) ≡ true →
-          Trail p q.from q.time (level_at level i) (leg p i) (leg p x ∷ xs)
-      by_boat g =
-          let parts = and_parts (eqb (level_at level i) (level_at level x + 1)) _
-          (and_parts (ltb 0 (level_at level x)) _ g).1 in
-          let next = eqb-true _ _ parts.0 in
-          let same : suc (level_at level x) ≡ level_at level i = omega arith in
-          let on = trail_board f.on (no_stay next) parts.1 (level_usable ls i h l) in
-          subst (λ (k : ℕ). Trail p q.from q.time k (leg p i) (leg p x ∷ xs)) same on
-        where
-          no_stay : level_at level i ≡ level_at level x + 1 → stays (leg p x) (leg p i) ≡ false
-          no_stay next =
-              ⊎_elim
-              (λ e. absurd (let low = stay_level ls i x h c.within l some e in omega arith))
-              (λ e. e)
-              (cases_Bool (stays (leg p x) (leg p i)))
+      by_boat : stays (leg p x) (leg p i) ≡ false → Trail p q.from q.time (level_at level i) (leg p i) (leg p x ∷ xs)
+      by_boat e =
+          let good = c.good in
+          let same : suc (level_at level x) ≡ level_at level i = grind (arith, nat_tests) in
+          let board : boards p (leg p x) (leg p i) ≡ true = grind (arith, nat_tests) in
+          subst (λ (k : ℕ). Trail p q.from q.time k (leg p i) (leg p x ∷ xs)) same
+          (trail_board f.on e board (level_usable ls i h l))
 
       others : (ys : List Leg) → Trail p q.from q.time (level_at level i) (leg p i) ys →
           (ys ≡ leg p x ∷ xs) ⊎ (precedes (leg p x ∷ xs) ys ≡ true)
       others [] y =
           let (one, e) = trail_none y in
-          absurd (both_ways (starts p q level i) none (and_from (eqb (level_at level i) 1) _ (eq-eqb _ _ one) e))
+          absurd (grind (arith, nat_tests))
       others (a ∷ zs) y =
           let w = before_leg ls i h l a zs y in
           let v = w.place in

@@ -9,7 +9,7 @@ use Rattle.journey.specs.Journeys.{NamedOnce, Ends}
 use Rattle.journey.specs.Journeys.Ends.{at_once, on_foot}
 use Rattle.marks.specs.declared.mark.Mark.{Mark}
 use Rattle.rounds.specs.declared.query.Query.{Query}
-use Rattle.rounds.specs.declared.reply.Reply.{Reply}
+use Rattle.rounds.specs.Entry.{Reply}
 use Rattle.rounds.specs.Layout.{Alike}
 use Rattle.rounds.specs.Query.{query_checked}
 use Rattle.rounds.proofs.Alike.{journey_alike, journey_alike_back, answer_alike}

@@ -1,6 +1,9 @@
 -- The legs of an itinerary written to a row, number by number.
-use Rattle.std.proofs.Common.{◌≡◌, ℕ, zero, suc, ◌+◌, ◌-◌, ◌*◌, ◌<◌, ◌≤◌, List, [], ◌∷◌, ◌++◌, map, length, get_or, take, drop, set, sym, refl, ap, ◌∙◌, subst, arith, length-drop}
-use Rattle.std.proofs.lemmas.List.{take_more, take_all, length-take-le, length_push, drop_more, drop_all, get_or-drop}
+use Rattle.std.proofs.Common.{◌≡◌, ℕ, zero, suc, ◌+◌, ◌-◌, ◌*◌, ◌<◌, ◌≤◌, true, ◌&&◌, eqb, Decides, ◌⊎◌, List, [], ◌∷◌, ◌++◌, map, length, get_or, take, drop, set, sym, refl, ap, ◌∙◌, subst, inl, inr, ⊎_elim, arith, length-drop}
+use Rattle.std.specs.List.{list_any}
+use Rattle.std.proofs.lemmas.Bool.{false≢true, or_cases, or_left, or_right}
+use Rattle.std.proofs.lemmas.Bool.Decides.{nat_tests}
+use Rattle.std.proofs.lemmas.List.{take_more, take_all, length-take-le, length_push, length-map, get_or-drop}
 use Rattle.plan.specs.declared.leg.Leg.{Leg}
 use Rattle.plan.specs.Legs.{Plan, leg}
 use Rattle.journey.specs.declared.question.Question.{Question}
@@ -24,10 +27,6 @@ module _ (f : ℕ → Leg) where
   unfolding names_words
   words_push [] x = refl
   words_push (y ∷ ps) x = ap (λ (l : List ℕ). (f y).run ∷ (f y).number ∷ l) (words_push ps x)
-
-  pub length_legs : (ps : List ℕ) → length (map f ps) ≡ length ps
-  length_legs [] = refl
-  length_legs (x ∷ ps) = ap suc (length_legs ps)
 
   -- the count, and the first so many legs: as the loop begins, after one more, and after all
   pub legs_row_none : (n : ℕ) (ps xs : List ℕ) → 0 < length xs →
@@ -69,7 +68,7 @@ module _ (f : ℕ → Leg) where
       was
       ∙ ap (λ (l : List ℕ). over (length ps ∷ names_words (map f l)) (set xs 0 (length ps))) (take_all i ps past)
       ∙ over_first (length ps) (names_words (map f ps)) xs some
-      ∙ ap (λ (n : ℕ). over (n ∷ names_words (map f ps)) xs) (sym (length_legs ps))
+      ∙ ap (λ (n : ℕ). over (n ∷ names_words (map f ps)) xs) (sym (length-map ps f))
 
 -- ---- the rest of a row from a place on, as a slice has it
 pub rest_of : (row : List ℕ) (at : ℕ) → take (length row - at) (drop at row) ≡ drop at row
@@ -89,7 +88,7 @@ pub written_rest : {p : Plan} {q : Question} {m : Mark} (row : List ℕ) (at : �
 written_rest {p} {q} {m} row at out out₁ it after = record {
   legs = map (leg p) (take (length row - at) (drop at row));
   itinerary = subst (λ (l : List ℕ). Itinerary p q m.arrival m.boats (map (leg p) l)) (sym (rest_of row at)) it;
-  many = sym (length_legs (leg p) (take (length row - at) (drop at row)));
+  many = sym (length-map (take (length row - at) (drop at row)) (leg p));
   after = after;
 }
 
@@ -99,17 +98,26 @@ among_at [] i m d h e = absurd (omega arith)
 among_at (x ∷ ms) zero m d h e = subst (λ (z : Mark). Among m (z ∷ ms)) (sym e) among_first
 among_at (x ∷ ms) (suc i) m d h e = among_later (among_at ms i m d (omega arith) e)
 
-among_rest : (m x : Mark) (ms : List Mark) → (x ≡ m → ⊥) → Among m (x ∷ ms) → Among m ms
-among_rest m x ms not among_first = absurd (not refl)
-among_rest m x ms not (among_later i) = i
+among_or_later : {m n : Mark} {ms : List Mark} → Among m (n ∷ ms) → (n ≡ m) ⊎ Among m ms
+among_or_later among_first = inl refl
+among_or_later (among_later a) = inr a
 
-pub among_skip : (ms : List Mark) (i : ℕ) (m d : Mark) → i < length ms → (get_or ms i d ≡ m → ⊥) →
-    (Among m ms → Among m (drop i ms)) → Among m ms → Among m (drop (i + 1) ms)
-among_skip ms i m d h not keep x =
-    among_rest m (get_or ms i d) (drop (i + 1) ms) not (subst (Among m) (drop_more ms i d h) (keep x))
-
-pub among_end : (ms : List Mark) (i : ℕ) (m : Mark) → length ms ≤ i → (Among m ms → Among m (drop i ms)) → Among m ms → ⊥
-among_end ms i m past keep x = none (subst (Among m) (drop_all i ms past) (keep x))
+-- a list contains the mark if one of its marks equals it
+pub among_contains : (m : Mark) (ms : List Mark) →
+    Decides (list_any (λ n. eqb n.arrival m.arrival && eqb n.boats m.boats) ms) (Among m ms)
+among_contains m [] = (λ e. absurd (false≢true e), λ a. elim a [ ])
+among_contains m (n ∷ ms) =
+    let later = among_contains m ms in (
+      λ e. ⊎_elim same (λ f. among_later (later.0 f)) (or_cases (eqb n.arrival m.arrival && eqb n.boats m.boats) _ e),
+      λ a. ⊎_elim (λ is. or_left _ _ (equal is)) (λ b. or_right _ _ (later.1 b)) (among_or_later a),
+    )
   where
-    none : Among m [] → ⊥
-    none i = elim i [ ]
+    same : (eqb n.arrival m.arrival && eqb n.boats m.boats) ≡ true → Among m (n ∷ ms)
+    same e =
+        let arrival : m.arrival ≡ n.arrival = grind (arith, nat_tests) in
+        let boats : m.boats ≡ n.boats = grind (arith, nat_tests) in
+        let is : m ≡ n = λ i. record { arrival = arrival i; boats = boats i } in
+        subst (λ (z : Mark). Among m (z ∷ ms)) is among_first
+
+    equal : n ≡ m → (eqb n.arrival m.arrival && eqb n.boats m.boats) ≡ true
+    equal is = rw is (grind (arith, nat_tests))

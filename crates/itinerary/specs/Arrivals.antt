@@ -5,7 +5,7 @@ use Rattle.plan.specs.declared.walk.Walk.{Walk}
 use Rattle.plan.specs.Legs.{Plan, no_leg, no_walk, piers}
 use Rattle.plan.specs.Check.{most_piers, most_legs, most_walks}
 use Rattle.rounds.specs.Layout.{Chains}
-use Rattle.itinerary.specs.declared.arrivals.Chain.{Chain}
+use Rattle.rounds.specs.declared.chains.Chain.{Chain}
 use Rattle.itinerary.specs.declared.arrivals.Arrivals.{Arrivals}
 
 -- the pier that the leg, or the walk, at a place comes to

@@ -10,10 +10,8 @@ use Rattle.marks.specs.declared.mark.Mark.{Mark}
 use Rattle.marks.specs.Marks.{Among}
 use Rattle.marks.specs.Row.{over}
 use Rattle.rounds.specs.declared.query.Query.{Query}
-use Rattle.rounds.specs.declared.reply.Reply.{Reply}
-use Rattle.rounds.specs.declared.reply.Reply.TheVariants.{Done, Refused}
 use Rattle.rounds.specs.Answers.{Answer}
-use Rattle.rounds.specs.Entry.{asked}
+use Rattle.rounds.specs.Entry.{Reply, asked}
 use Rattle.itinerary.specs.Order.{Itinerary}
 
 -- run and number of each leg
@@ -39,14 +37,14 @@ pub record Written (p : Plan) (q : Question) (m : Mark) (row : List ℕ) (n : �
 -- A row that is too short is refused, then a mark that is none of the answer's, and the row is as it was. Else the
 -- itinerary for the mark stands in the row.
 pub data Named (p : Plan) (a : Query) (m : Mark) (row : List ℕ) (r : Reply) (row₁ : List ℕ) : Type 0 where
-  row_short : length row < itinerary_room → r ≡ Refused (ShortRow (length row)) → row₁ ≡ row → Named p a m row r row₁
+  row_short : length row < itinerary_room → r ≡ Err (ShortRow (length row)) → row₁ ≡ row → Named p a m row r row₁
   not_told : itinerary_room ≤ length row → (marks : List Mark) → Answer p a.most a.question marks →
-      (Among m marks → ⊥) → r ≡ Refused (NoMark m.boats) → row₁ ≡ row → Named p a m row r row₁
+      (Among m marks → ⊥) → r ≡ Err (NoMark m.boats) → row₁ ≡ row → Named p a m row r row₁
   named : itinerary_room ≤ length row → (marks : List Mark) → Answer p a.most a.question marks → Among m marks →
-      (n : ℕ) → Written p a.question m row n row₁ → r ≡ Done n → Named p a m row r row₁
+      (n : ℕ) → Written p a.question m row n row₁ → r ≡ Ok n → Named p a m row r row₁
 
 abbrev pub NamedBy : Result Query Refusal → Plan → Mark → List ℕ → Reply → List ℕ → Type 0
-NamedBy (Err e) p m row r row₁ = (r ≡ Refused e) × (row₁ ≡ row)
+NamedBy (Err e) p m row r row₁ = (r ≡ Err e) × (row₁ ≡ row)
 NamedBy (Ok a) p m row r row₁ = Named p a m row r row₁
 
 -- what is told for a mark of the answer to a question: the reply, and the whole row

@@ -1,25 +1,30 @@
--- What a leg is sought for: to be the last of the itinerary, or to stand before another leg.
-use Rattle.std.specs.Prelude.{◌≡◌, ℕ, ◌<◌, List, length}
-use Rattle.plan.specs.Legs.{Plan, leg, piers}
-use Rattle.itinerary.specs.declared.choosing.Sought.{Sought}
-use Rattle.itinerary.specs.declared.choosing.Sought.TheVariants.{Last, Before}
-use Rattle.itinerary.specs.Tracing.{Prior, Final}
+-- What a search finds: of the legs from which one gets to a pier the one that comes first of those that a test takes.
+use Rattle.std.specs.Prelude.{◌≡◌, ℕ, ◌<◌, Bool, true, false, ◌⊎◌, length, Some, None, Option}
+use Rattle.plan.specs.Legs.{Plan, leg, walk}
+use Rattle.itinerary.specs.Order.{before}
 
--- the pier, or the leg, is one of the plan
-abbrev pub ThereIs : Plan → Sought → Type 0
-ThereIs p (Last q m) = q.to < piers p
-ThereIs p (Before i) = i < length p.legs
+-- a walk leads from the one pier to the other
+pub record ByWalk (p : Plan) (from to : ℕ) : Type 0 where
+  pub place : ℕ
+  pub within : place < length p.walks
+  pub leaves_from : (walk p place).from ≡ from
+  pub comes_to : (walk p place).to ≡ to
 
--- where one has to be behind the leg
-abbrev pub pier_of : Plan → Sought → ℕ
-pier_of p (Last q m) = q.to
-pier_of p (Before i) = (leg p i).from
+-- whoever is at the pier `from` gets to the pier `to`: it is the same, or a walk leads there
+abbrev pub Near : Plan → ℕ → ℕ → Type 0
+Near p to from = (from ≡ to) ⊎ ByWalk p from to
 
--- the leg at x may stand there
-abbrev pub Fits : Plan → List ℕ → Sought → ℕ → Type 0
-Fits p level (Last q m) x = Final p q level m x
-Fits p level (Before i) x = Prior p level i x
+-- the leg at y is the one at x, or comes behind it
+abbrev pub Behind : Plan → ℕ → ℕ → Type 0
+Behind p x y = (leg p y ≡ leg p x) ⊎ (before (leg p x) (leg p y) ≡ true)
 
--- and comes to a pier
-abbrev pub FitsAt : Plan → List ℕ → Sought → ℕ → ℕ → Type 0
-FitsAt p level s pier x = ((leg p x).to ≡ pier) × Fits p level s x
+-- A test told of each leg of a kind whether it fits. The one at x does, and each other that does comes behind it.
+pub record FirstToFit (p : Plan) (Kind : ℕ → Type 0) (Told : ℕ → Bool → Type 0) (n x : ℕ) : Type 0 where
+  pub within : x < n
+  pub fits : Told x true
+  pub rest : (y : ℕ) → y < n → Kind y → Told y false ⊎ Behind p x y
+
+-- the first that fits, or that none does
+pub data Found (p : Plan) (Kind : ℕ → Type 0) (Told : ℕ → Bool → Type 0) (n : ℕ) : Option ℕ → Type 0 where
+  none_fits : ((y : ℕ) → y < n → Kind y → Told y false) → Found p Kind Told n None
+  first_fits : {x : ℕ} → FirstToFit p Kind Told n x → Found p Kind Told n (Some x)

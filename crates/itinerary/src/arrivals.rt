@@ -4,21 +4,13 @@ ghost use Rattle.std.specs.Prelude.{◌≡◌, ℕ, ◌<◌, ◌≤◌, length, 
 ghost use Rattle.plan.specs.Legs.{no_leg, no_walk};
 ghost use Rattle.plan.specs.Sound.{Few};
 ghost use Rattle.rounds.specs.Layout.{Chains};
-ghost use Rattle.rounds.specs.Rows.{plan_of, Lies};
+ghost use Rattle.rounds.specs.Rows.{plan_of};
 ghost use Rattle.itinerary.specs.Arrivals.{leg_to, walk_to, Arriving, Ample};
 
 use plan::leg::Leg;
 use plan::walk::Walk;
+use rounds::chains::{Chain, chain_by};
 use rounds::layout::Layout;
-use rounds::opening::put_in_front;
-
-// For each pier one more than the place of the last one that comes to it, or 0; for each one the same of the one before
-// it that comes to the same pier.
-#[derive(Clone, Copy)]
-pub struct Chain<'a> {
-    pub last: &'a [u16],
-    pub prior: &'a [u16],
-}
 
 #[derive(Clone, Copy)]
 pub struct Arrivals<'a> {
@@ -33,10 +25,7 @@ pub fn chain_legs(legs: &[Leg], last: &mut [u16], prior: &mut [u16])
     ensures { Chains (leg_to legs.now) (length legs.now) (length last.new)
         last.new prior.new (length legs.now) }
 {
-    last.fill(0);
-    for i in 0..legs.len() {
-        put_in_front(last, prior, legs[i].to as usize, i);
-    }
+    chain_by(|i| legs[i].to as usize, last, prior);
 }
 
 pub fn chain_walks(walks: &[Walk], last: &mut [u16], prior: &mut [u16])
@@ -46,10 +35,7 @@ pub fn chain_walks(walks: &[Walk], last: &mut [u16], prior: &mut [u16])
     ensures { Chains (walk_to walks.now) (length walks.now) (length last.new)
         last.new prior.new (length walks.now) }
 {
-    last.fill(0);
-    for j in 0..walks.len() {
-        put_in_front(last, prior, walks[j].to as usize, j);
-    }
+    chain_by(|j| walks[j].to as usize, last, prior);
 }
 
 // Chains the legs and the walks of a plan in the fronts of the lent rows.
@@ -60,7 +46,6 @@ pub fn chain_arrivals<'a>(
     last_walk: &'a mut [u16],
     prior_walk: &'a mut [u16],
 ) -> Arrivals<'a>
-    requires laid { Lies layout }
     requires few { Few (plan_of layout) }
     requires ample { Ample last_leg.old prior_leg.old last_walk.old prior_walk.old }
     ensures { Arriving (plan_of layout.entry) result }

@@ -5,6 +5,7 @@ pub mod arrivals;
 mod choosing;
 pub mod journey_for;
 mod order;
+pub mod search;
 mod telling;
 mod trace;
 mod ways;

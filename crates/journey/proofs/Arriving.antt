@@ -1,71 +1,124 @@
--- The earliest arrival at a pier, walk by walk.
-use Rattle.std.proofs.Common.{◌≡◌, ℕ, ◌+◌, ◌<◌, ◌≤◌, true, false, length, Some, None, Option, sym, ap, ◌∙◌, subst, inl, inr, arith, MatchOption}
-use Rattle.std.proofs.lemmas.Bool.{cases_lt, cases_eq, eqb-true, eq-eqb, and_parts, and_from, both_ways, cases_Bool, cond-true, cond-false}
-use Rattle.plan.specs.Legs.{Plan, walk}
+-- The earliest arrival at a pier: at once, or by the walk that is there first.
+use Rattle.std.proofs.Common.{◌≡◌, ℕ, ◌+◌, ◌≤◌, min, true, false, ◌⊎◌, List, [], ◌∷◌, map, length, get_or, Some, None, Option, sym, refl, ap, ◌∙◌, subst, inl, inr, arith}
+use Rattle.std.specs.List.{fold, reduce, filter_map, cons_option, range_with_len}
+use Rattle.std.proofs.lemmas.Bool.{cases_lt, cases_Bool, cond-true, cond-false, false≢true, or_cases, or_left, or_right}
+use Rattle.std.proofs.lemmas.Bool.Decides.{nat_tests}
+use Rattle.plan.specs.declared.walk.Walk.{Walk}
+use Rattle.plan.specs.Legs.{Plan, walk, no_walk}
+use Rattle.journey.specs.Steps.{leads, walks_to}
 use Rattle.journey.specs.Journeys.{Ends, at_once, on_foot}
-use Rattle.journey.specs.Checked.{between, sooner, by_walk, EarliestEnd}
-use Rattle.journey.proofs.Walking.{ends_le, ends_cases, walked}
+use Rattle.journey.specs.Checked.{between, there_by, EarliestEnd}
+use Rattle.journey.proofs.Walking.{ends_le, ends_cases, walked, walks_at, walks_to_none, walks_to_more, walks_placed}
 
--- the earliest arrival by one of the first n walks, if there is one
-pub record Nearest (p : Plan) (d s t : ℕ) (best : Option ℕ) (n : ℕ) : Type 0 where
-  pub given : MatchOption best Unit (λ u. Ends p d s t u)
-  pub least : (j : ℕ) → j < n → (walk p j).from ≡ s → (walk p j).to ≡ d → MatchOption best ⊥ (λ u. u ≤ t + (walk p j).takes)
+-- ---- the least of some numbers
 
-module _ {p : Plan} {d s t : ℕ} where
-  pub nearest_none : Nearest p d s t None 0
-  nearest_none = record { given = tt; least = λ j h. absurd (omega arith) }
+abbrev least_of : ℕ → Option ℕ → ℕ
+least_of x None = x
+least_of x (Some y) = min x y
 
-  -- the next walk does not lead there
-  pub nearest_skip : {best : Option ℕ} (n : ℕ) → Nearest p d s t best n → between (walk p n) s d ≡ false → Nearest p d s t best (n + 1)
-  nearest_skip n g e = record {
-    given = g.given;
-    least = λ j h a b. elim (cases_eq j n) [
-      | inl is ↦ absurd (both_ways (between (walk p n) s d) e (and_from _ _ (eq-eqb _ _ (ap (λ k. (walk p k).from) (sym is) ∙ a)) (eq-eqb _ _ (ap (λ k. (walk p k).to) (sym is) ∙ b))))
-      | inr ne ↦ g.least j (omega arith) a b
-    ];
-  }
+fold_min : (x : ℕ) (xs : List ℕ) → fold min x xs ≡ least_of x (reduce min xs)
+fold_min x [] = refl
+fold_min x (y ∷ ys) = by (reduce min ys) (fold_min (min x y) ys) (fold_min y ys)
+  where
+    by : (o : Option ℕ) → fold min (min x y) ys ≡ least_of (min x y) o → fold min y ys ≡ least_of y o →
+        fold min (min x y) ys ≡ min x (fold min y ys)
+    by None e f = omega arith
+    by (Some z) e f = omega arith
 
-  foot : (n : ℕ) → n < length p.walks → between (walk p n) s d ≡ true → Ends p d s t (t + (walk p n).takes)
-  foot n h e = let b = and_parts _ _ e in on_foot n h (eqb-true _ _ b.0) (eqb-true _ _ b.1)
+module _ (s t d : ℕ) where
+  times : List Walk → List ℕ
+  times ws = filter_map (λ w. there_by w s t d) ws
 
-  -- the next walk leads there
-  pub nearest_more : (best : Option ℕ) (n : ℕ) → n < length p.walks → Nearest p d s t best n → between (walk p n) s d ≡ true →
-      Nearest p d s t (sooner best (t + (walk p n).takes)) (n + 1)
-  nearest_more None n h g e = record {
-    given = foot n h e;
-    least = λ j l a b. elim (cases_eq j n) [ inl is ↦ omega (arith, ap (λ k. (walk p k).takes) is) | inr ne ↦ absurd (g.least j (omega arith) a b) ];
-  }
-  nearest_more (Some u) n h g e = record {
-    given = elim (cases_lt u (t + (walk p n).takes)) [
-      | inl less ↦ subst (Ends p d s t) (omega arith) g.given
-      | inr more ↦ subst (Ends p d s t) (omega arith) (foot n h e)
-    ];
-    least = λ j l a b. elim (cases_eq j n) [ inl is ↦ omega (arith, ap (λ k. (walk p k).takes) is) | inr ne ↦ omega (arith, g.least j (omega arith) a b) ];
-  }
+  -- some walk is there at that time and none before it, or none leads there at all
+  abbrev First : List Walk → Option ℕ → Type 0
+  First ws None = (u : ℕ) → walks_to ws s t d u ≡ true → ⊥
+  First ws (Some u) = (walks_to ws s t d u ≡ true) × ((v : ℕ) → walks_to ws s t d v ≡ true → u ≤ v)
 
-  pub nearest_step : (best : Option ℕ) (n : ℕ) → n < length p.walks → Nearest p d s t best n →
-      Nearest p d s t (by_walk best (walk p n) s t d) (n + 1)
-  nearest_step best n h g = elim (cases_Bool (between (walk p n) s d)) [
-    | inl e ↦ subst (λ b. Nearest p d s t b (n + 1)) (sym (cond-true _ _ _ e)) (nearest_more best n h g e)
-    | inr e ↦ subst (λ b. Nearest p d s t b (n + 1)) (sym (cond-false _ _ _ e)) (nearest_skip n g e)
+  leads_by : (w : Walk) (u : ℕ) → leads w s t d u ≡ true → (between w s d ≡ true) × (t + w.takes ≤ u)
+  leads_by w u e = (grind (arith, nat_tests), grind (arith, nat_tests))
+
+  leads_at : (w : Walk) (u : ℕ) → between w s d ≡ true → t + w.takes ≤ u → leads w s t d u ≡ true
+  leads_at w u e l = grind (arith, nat_tests)
+
+  more_cases : (w : Walk) (ws : List Walk) (u : ℕ) → walks_to (w ∷ ws) s t d u ≡ true → (leads w s t d u ≡ true) ⊎ (walks_to ws s t d u ≡ true)
+  more_cases w ws u e = or_cases _ _ (sym (walks_to_more w ws s t d u) ∙ e)
+
+  more_first : (w : Walk) (ws : List Walk) (u : ℕ) → leads w s t d u ≡ true → walks_to (w ∷ ws) s t d u ≡ true
+  more_first w ws u e = walks_to_more w ws s t d u ∙ or_left _ _ e
+
+  more_later : (w : Walk) (ws : List Walk) (u : ℕ) → walks_to ws s t d u ≡ true → walks_to (w ∷ ws) s t d u ≡ true
+  more_later w ws u e = walks_to_more w ws s t d u ∙ or_right _ _ e
+
+  -- one walk more, which does not lead there
+  first_skip : (w : Walk) (ws : List Walk) (o : Option ℕ) → between w s d ≡ false → First ws o → First (w ∷ ws) o
+  first_skip w ws None n f = λ u e. elim (more_cases w ws u e) [
+    | inl l ↦ false≢true (sym n ∙ (leads_by w u l).0)
+    | inr r ↦ f u r
   ]
-
-  -- all walks were looked at
-  pub nearest_all : (best : Option ℕ) (n : ℕ) → n ≡ length p.walks → (s ≡ d → ⊥) → Nearest p d s t best n → EarliestEnd p d s t best
-  nearest_all None n all apart g = λ u x. elim (ends_cases x) [
-    | inl at ↦ apart at.0
-    | inr on ↦ let w = walked p.walks s t d u on in g.least w.place (omega (arith, w.within)) w.from w.to
-  ]
-  nearest_all (Some u) n all apart g = (
-    g.given,
-    λ v x. elim (ends_cases x) [
-      | inl at ↦ absurd (apart at.0)
-      | inr on ↦
-          let w = walked p.walks s t d v on in
-          let l = g.least w.place (omega (arith, w.within)) w.from w.to in
-          omega (arith, w.in_time)
+  first_skip w ws (Some u) n f = (
+    more_later w ws u f.0,
+    λ v e. elim (more_cases w ws v e) [
+      | inl l ↦ absurd (false≢true (sym n ∙ (leads_by w v l).0))
+      | inr r ↦ f.1 v r
     ],
   )
+
+  -- and one that does
+  first_more : (w : Walk) (ws : List Walk) (o : Option ℕ) → between w s d ≡ true → First ws o →
+      First (w ∷ ws) (Some (least_of (t + w.takes) o))
+  first_more w ws None b f = (
+    more_first w ws _ (leads_at w _ b (omega arith)),
+    λ v e. elim (more_cases w ws v e) [ inl l ↦ (leads_by w v l).1 | inr r ↦ absurd (f v r) ],
+  )
+  first_more w ws (Some u) b f = (
+    elim (cases_lt u (t + w.takes)) [
+      | inl less ↦ more_later w ws _ (subst (λ v. walks_to ws s t d v ≡ true) (omega arith) f.0)
+      | inr more ↦ more_first w ws _ (leads_at w _ b (omega arith))
+    ],
+    λ v e. elim (more_cases w ws v e) [
+      | inl l ↦ omega (arith, (leads_by w v l).1)
+      | inr r ↦ omega (arith, f.1 v r)
+    ],
+  )
+
+  first_of : (ws : List Walk) → First ws (reduce min (times ws))
+  unfolding times
+  first_of [] = λ u e. false≢true (sym (walks_to_none s t d u) ∙ e)
+  first_of (w ∷ ws) = elim (cases_Bool (between w s d)) [
+    | inl b ↦
+        subst (First (w ∷ ws))
+        (sym (ap (λ o. reduce min (cons_option o (times ws))) (cond-true (between w s d) (Some (t + w.takes)) None b) ∙ ap Some (fold_min (t + w.takes) (times ws))))
+        (first_more w ws (reduce min (times ws)) b (first_of ws))
+    | inr n ↦
+        subst (First (w ∷ ws))
+        (sym (ap (λ o. reduce min (cons_option o (times ws))) (cond-false (between w s d) (Some (t + w.takes)) None n)))
+        (first_skip w ws (reduce min (times ws)) n (first_of ws))
+  ]
+
+  -- the walks of a plan, by their places
+  times_map : (f : ℕ → Walk) (js : List ℕ) → filter_map (λ j. there_by (f j) s t d) js ≡ times (map f js)
+  unfolding times
+  times_map f [] = refl
+  times_map f (j ∷ js) = ap (cons_option (there_by (f j) s t d)) (times_map f js)
+
+  times_by_place : (ws : List Walk) → filter_map (λ j. there_by (get_or ws j no_walk) s t d) (range_with_len 0 (length ws)) ≡ times ws
+  times_by_place ws = times_map (λ j. get_or ws j no_walk) (range_with_len 0 (length ws)) ∙ ap times (walks_placed ws)
+
+-- who is not at the pier is there by the first walk
+first_end : (p : Plan) (d s t : ℕ) (o : Option ℕ) → (s ≡ d → ⊥) → First s t d p.walks o → EarliestEnd p d s t o
+first_end p d s t None apart f = λ u x. elim (ends_cases x) [ inl at ↦ apart at.0 | inr on ↦ f u on ]
+first_end p d s t (Some u) apart f =
+    let w = walked p.walks s t d u f.0 in
+    let no_later = f.1 (t + (walk p w.place).takes) (walks_at p.walks s t d _ w.place w.within w.from w.to (omega arith)) in (
+      subst (Ends p d s t) (omega (arith, w.in_time)) (on_foot w.place w.within w.from w.to),
+      λ v x. elim (ends_cases x) [ inl at ↦ absurd (apart at.0) | inr on ↦ f.1 v on ],
+    )
+
+pub end_on_foot : (p : Plan) (d s t : ℕ) (o : Option ℕ) → (s ≡ d → ⊥) →
+    o ≡ reduce min (filter_map (λ j. there_by (walk p j) s t d) (range_with_len 0 (length p.walks))) → EarliestEnd p d s t o
+end_on_foot p d s t o apart e =
+    subst (EarliestEnd p d s t) (sym (e ∙ ap (reduce min) (times_by_place s t d p.walks)))
+    (first_end p d s t (reduce min (times s t d p.walks)) apart (first_of s t d p.walks))
 
 -- who is there already is so at once
 pub end_at_once : (p : Plan) (d s t : ℕ) → s ≡ d → EarliestEnd p d s t (Some t)

@@ -1,38 +1,30 @@
 -- Legs by their names.
-use Rattle.std.proofs.Common.{◌≡◌, ℕ, suc, ◌+◌, ◌<◌, Bool, true, false, cond, ◌&&◌, eqb, ◌⊎◌, List, [], ◌∷◌, length, get_or, drop, Some, None, sym, refl, ap, ◌∙◌, subst, inl, inr, add-one, arith, drop-cons}
-use lib.Seq.{drop-length}
-use Rattle.std.proofs.lemmas.Bool.{cond-true, cond-false, and_parts, and_from, eqb-true, eq-eqb, both_ways}
+use Rattle.std.proofs.Common.{◌≡◌, ℕ, Bool, true, false, cond, ◌&&◌, eqb, ◌⊎◌, List, [], ◌∷◌, map, length, get_or, Some, sym, refl, ap, ◌∙◌, subst, inl, inr, arith}
+use Rattle.std.specs.List.{find, range_with_len}
+use Rattle.std.proofs.lemmas.List.FromFn.{fill_by_all}
+use Rattle.std.proofs.lemmas.Bool.{and_parts, and_from, eqb-true, eq-eqb, both_ways}
 use Rattle.plan.specs.declared.leg.Leg.{Leg}
-use Rattle.plan.specs.Legs.{Plan, no_leg, leg, same_name}
+use Rattle.plan.specs.Legs.{Plan, no_leg, leg, same_name, name}
 use Rattle.plan.specs.Sound.{Sound}
-use Rattle.journey.specs.declared.name.LegName.{LegName}
+use Rattle.plan.specs.declared.name.LegName.{LegName}
 use Rattle.journey.specs.Journeys.{in_plan, NamedOnce}
-use Rattle.journey.specs.Checked.{name, find_leg}
+use Rattle.journey.specs.Checked.{find_leg}
 use Rattle.journey.proofs.PlanLegs.{in_plan_place, in_plan_first, in_plan_later, in_plan_cases, in_plan_none}
 
-abbrev named : LegName → Leg → Bool
+abbrev pub named : LegName → Leg → Bool
 named n a = eqb a.run n.run && eqb a.number n.number
 
--- ---- a search of the legs, one after the other
-find_more : (n : LegName) (a : Leg) (ls : List Leg) → find_leg n (a ∷ ls) ≡ cond (named n a) (Some a) (find_leg n ls)
+-- a search of the legs by their places in the plan
+find_all : (n : LegName) (ls : List Leg) → find (named n) ls ≡ find_leg n ls
 unfolding find_leg
-find_more n a ls = refl
+find_all n [] = refl
+find_all n (a ∷ ls) = ap (cond (named n a) (Some a)) (find_all n ls)
 
-find_at : (n : LegName) (ls : List Leg) (i : ℕ) → i < length ls →
-    find_leg n (drop i ls) ≡ cond (named n (get_or ls i no_leg)) (Some (get_or ls i no_leg)) (find_leg n (drop (i + 1) ls))
-find_at n ls i h = rw add-one (ap (find_leg n) (drop-cons ls i no_leg h) ∙ find_more n (get_or ls i no_leg) (drop (suc i) ls))
-
-pub find_skip : (n : LegName) (ls : List Leg) (i : ℕ) → i < length ls → named n (get_or ls i no_leg) ≡ false →
-    find_leg n (drop (i + 1) ls) ≡ find_leg n (drop i ls)
-find_skip n ls i h e = sym (find_at n ls i h ∙ cond-false _ _ _ e)
-
-pub find_hit : (n : LegName) (ls : List Leg) (i : ℕ) → i < length ls → named n (get_or ls i no_leg) ≡ true →
-    find_leg n (drop i ls) ≡ Some (get_or ls i no_leg)
-find_hit n ls i h e = find_at n ls i h ∙ cond-true _ _ _ e
-
-pub find_none : (n : LegName) (ls : List Leg) → find_leg n (drop (length ls) ls) ≡ None
-unfolding find_leg
-find_none n ls = ap (find_leg n) (drop-length ls)
+pub find_by_place : (n : LegName) (ls : List Leg) →
+    find (named n) (map (λ i. get_or ls i no_leg) (range_with_len 0 (length ls))) ≡ find_leg n ls
+find_by_place n ls =
+    ap (find (named n)) (sym (fill_by_all (λ i. get_or ls i no_leg) ls (length ls) no_leg refl (λ k _. refl)))
+    ∙ find_all n ls
 
 -- ---- the leg that is found has the name, and is the only one that has it
 name_is : (n : LegName) (a : Leg) → named n a ≡ true → name a ≡ n

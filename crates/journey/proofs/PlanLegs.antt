@@ -1,10 +1,11 @@
 -- Legs of a plan: a leg is what its six numbers are, and each leg of a plan has a place in it.
-use Rattle.std.proofs.Common.{◌≡◌, ℕ, zero, suc, ◌<◌, true, false, ◌||◌, ◌⊎◌, List, [], ◌∷◌, ◌++◌, length, get_or, sym, refl, ◌∙◌, subst, inl, inr, ⊎_elim, arith}
+use Rattle.std.proofs.Common.{◌≡◌, ℕ, zero, suc, ◌<◌, true, false, ◌⊎◌, List, [], ◌∷◌, ◌++◌, length, get_or, sym, refl, ◌∙◌, subst, inl, inr, ⊎_elim, arith}
 use Rattle.std.proofs.lemmas.Bool.{false≢true, or_cases, or_left, or_right}
 use Rattle.std.proofs.lemmas.Bool.Decides.{nat_tests}
 use Rattle.std.specs.List.{AllByRecursion}
 use Rattle.plan.specs.declared.leg.Leg.{Leg}
-use Rattle.plan.specs.Legs.{Plan, runs, no_leg, leg}
+use Rattle.plan.specs.Legs.{Plan, runs, no_leg, leg, piers}
+use Rattle.plan.specs.Sound.{Sound, LegWithin}
 use Rattle.journey.specs.Journeys.{same_leg, in_plan}
 use Rattle.journey.specs.Aboard.{Usable}
 
@@ -24,10 +25,6 @@ same_leg_refl a = grind (arith, nat_tests)
 pub in_plan_none : (a : Leg) → in_plan a [] ≡ false
 unfolding in_plan
 in_plan_none a = refl
-
-pub in_plan_more : (a b : Leg) (bs : List Leg) → in_plan a (b ∷ bs) ≡ (same_leg a b || in_plan a bs)
-unfolding in_plan
-in_plan_more a b bs = refl
 
 pub in_plan_first : (a : Leg) (bs : List Leg) → in_plan a (a ∷ bs) ≡ true
 unfolding in_plan
@@ -66,6 +63,10 @@ pub place_in_plan : (ls : List Leg) (i : ℕ) → i < length ls → in_plan (get
 place_in_plan [] i h = absurd (omega arith)
 place_in_plan (b ∷ bs) zero h = in_plan_first b bs
 place_in_plan (b ∷ bs) (suc i) h = in_plan_later (get_or bs i no_leg) b bs (place_in_plan bs i (omega arith))
+
+-- the numbers of each leg of a sound plan are within their bounds
+pub in_plan_within : {p : Plan} → Sound p → (a : Leg) → in_plan a p.legs ≡ true → LegWithin (piers p) a
+in_plan_within {p} s a e = let x = in_plan_place a p.legs e in subst (LegWithin (piers p)) x.is (s.legs x.place x.within)
 
 -- a leg that can be used has a place, and the leg at a place can be used if it runs
 pub usable_place : {p : Plan} {a : Leg} → Usable p a → Placed a p.legs

@@ -1,16 +1,20 @@
 -- A journey by the names of its legs, leg by leg.
-use Rattle.std.proofs.Common.{◌≡◌, ℕ, zero, suc, ◌+◌, ◌<◌, ◌≤◌, Bool, true, false, cond, List, [], ◌∷◌, ◌++◌, map, length, get_or, take, is_ok, Some, None, Ok, Err, Decides, Option, Result, sym, refl, ap, ◌∙◌, subst, inl, inr, add-one, arith}
+use Rattle.std.proofs.Common.{◌≡◌, ℕ, zero, suc, ◌+◌, ◌-◌, ◌<◌, ◌≤◌, Bool, true, false, cond, List, [], ◌∷◌, ◌++◌, map, length, get_or, take, drop, is_ok, Some, None, Ok, Err, Decides, Option, Result, sym, refl, ap, ◌∙◌, subst, inl, inr, add-one, arith}
 use Rattle.std.proofs.lemmas.Bool.{both_ways, cases_Bool, cond-true, cond-false}
 use Rattle.std.proofs.lemmas.Bool.Decides.{nat_tests}
-use Rattle.std.proofs.lemmas.List.{take_more, map-append, take_all, take-map}
+use Rattle.std.proofs.lemmas.Grind.{get_or_after_one}
+use Rattle.std.proofs.lemmas.List.{take_more, map-append, take_all, take-map, take_rest}
 use Rattle.plan.specs.declared.leg.Leg.{Leg}
-use Rattle.plan.specs.Legs.{Plan, runs, time_bound}
+use Rattle.plan.specs.Legs.{Plan, runs, piers, name}
+use Rattle.plan.specs.Sound.{Sound, LegWithin}
 use Rattle.journey.specs.declared.checking.Ride.{Ride}
-use Rattle.journey.specs.declared.name.LegName.{LegName}
+use Rattle.journey.specs.declared.checking.Broken.{Broken}
+use Rattle.plan.specs.declared.name.LegName.{LegName}
 use Rattle.journey.specs.Steps.{stays, follows, begins}
 use Rattle.journey.specs.Journeys.{in_plan, NamedOnce, joined, boats, last}
-use Rattle.journey.specs.Checked.{name, find_leg, only, going_leg, first_leg, next_leg, boats_after, told, Goes, GoneAlong, EarliestEnd, Reaching, on_no_boat, by_boat, Breaking, at_first, at_leg, at_no_end, on_no_foot, Ridden, Rides, Verdict}
-use Rattle.journey.proofs.Naming.{find_found, find_only, same_named}
+use Rattle.journey.specs.Checked.{find_leg, only, going_leg, first_leg, next_leg, boats_after, Goes, GoneAlong, EarliestEnd, Reaching, on_no_boat, by_boat, Breaking, at_first, at_leg, at_no_end, on_no_foot, Ridden, Rides}
+use Rattle.journey.proofs.PlanLegs.{in_plan_within}
+use Rattle.journey.proofs.Naming.{find_found, find_only, same_named, sound_once}
 use Rattle.journey.proofs.Chains.{joined_none, joined_says, joined_on, joined_snoc, joined_append_parts, journey_on, last_none, last_snoc, boats_none, boats_snoc_stay, boats_snoc_board}
 
 -- what a test lets through
@@ -49,6 +53,7 @@ pub record Trail (p : Plan) (s t : ℕ) (names : List LegName) (i : ℕ) (a : Le
   pub is_last : last first rest ≡ a
   pub taken : boats first rest ≡ k
   pub few : k ≤ i
+  pub within : LegWithin (piers p) a
 
 boats_after_le : (k : ℕ) (a b : Leg) (i : ℕ) → k ≤ i → boats_after k a b ≤ i + 1
 boats_after_le k a b i h = grind (arith, nat_tests)
@@ -61,8 +66,8 @@ module _ (p : Plan) (s t : ℕ) (names : List LegName) where
   front : 0 < length names → take 1 names ≡ get_or names 0 no_name ∷ []
   front h = take_more names 0 no_name h
 
-  pub trail_one : (a : Leg) → 0 < length names → first_leg p s t (get_or names 0 no_name) ≡ Some a → Trail p s t names 1 a 1
-  trail_one a h f =
+  pub trail_one : Sound p → (a : Leg) → 0 < length names → first_leg p s t (get_or names 0 no_name) ≡ Some a → Trail p s t names 1 a 1
+  trail_one sound a h f =
       let n = get_or names 0 no_name in
       let e = front h in
       let x = only_some (begins p s t) (going_leg p n) a f in
@@ -77,11 +82,12 @@ module _ (p : Plan) (s t : ℕ) (names : List LegName) where
         is_last = last_none a;
         taken = boats_none a;
         few = omega arith;
+        within = in_plan_within sound a g.known;
       }
 
-  pub trail_more : (i k : ℕ) (a b : Leg) → Trail p s t names i a k → i < length names → next_leg p a (get_or names i no_name) ≡ Some b →
+  pub trail_more : Sound p → (i k : ℕ) (a b : Leg) → Trail p s t names i a k → i < length names → next_leg p a (get_or names i no_name) ≡ Some b →
       Trail p s t names (i + 1) b (boats_after k a b)
-  trail_more i k a b x h f =
+  trail_more sound i k a b x h f =
       let n = get_or names i no_name in
       let y = only_some (follows p a) (going_leg p n) b f in
       let g = going p n b y.0 in
@@ -101,6 +107,7 @@ module _ (p : Plan) (s t : ℕ) (names : List LegName) where
               ∙ sym (cond-false (stays a b) k (k + 1) e)
         ];
         few = boats_after_le k a b i x.few;
+        within = in_plan_within sound b g.known;
       }
 
 -- ---- names that do not go on
@@ -136,7 +143,7 @@ longer p a (b ∷ bs) n x (y ∷ ys) once ia ja ix jx e =
     record { same = once x a ix ia (same_named x a first); next = r.next; is = (λ i. r.same i ∷ r.is i); is_named = r.is_named }
 
 module _ (p : Plan) (s t : ℕ) (names : List LegName) (once : NamedOnce p.legs) where
-  pub no_first : 0 < length names → first_leg p s t (get_or names 0 no_name) ≡ None → (x : Leg) (more : List Leg) → Goes p s t (take 1 names) x more → ⊥
+  no_first : 0 < length names → first_leg p s t (get_or names 0 no_name) ≡ None → (x : Leg) (more : List Leg) → Goes p s t (take 1 names) x more → ⊥
   no_first h f x more g =
       let n = get_or names 0 no_name in
       let e = front p s t names h in
@@ -146,7 +153,7 @@ module _ (p : Plan) (s t : ℕ) (names : List LegName) (once : NamedOnce p.legs)
       let z : ◌≡◌ {A = ℕ} 0 1 = (let w : None ≡ Some x = sym f ∙ found in cc) in
       omega arith
 
-  pub no_next : (i k : ℕ) (a : Leg) → Trail p s t names i a k → i < length names → next_leg p a (get_or names i no_name) ≡ None →
+  no_next : (i k : ℕ) (a : Leg) → Trail p s t names i a k → i < length names → next_leg p a (get_or names i no_name) ≡ None →
       (x : Leg) (more : List Leg) → Goes p s t (take (suc i) names) x more → ⊥
   no_next i k a tr h f x more g =
       let n = get_or names i no_name in
@@ -160,16 +167,32 @@ module _ (p : Plan) (s t : ℕ) (names : List LegName) (once : NamedOnce p.legs)
       let z : ◌≡◌ {A = ℕ} 0 1 = (let w : None ≡ Some l.next = sym f ∙ found in cc) in
       omega arith
 
+module _ (p : Plan) (s t : ℕ) (names : List LegName) (sound : Sound p) where
+  pub no_ride : 0 < length names → first_leg p s t (get_or names 0 no_name) ≡ None → Rides p s t names (Err (record { place = 0 }))
+  no_ride h f = (h, λ d. at_first h (no_first p s t names (sound_once sound) h f))
+
+  pub ride_breaks : (i k : ℕ) (a : Leg) → Trail p s t names i a k → i < length names → next_leg p a (get_or names i no_name) ≡ None →
+      Rides p s t names (Err (record { place = i }))
+  ride_breaks i k a x h f = (h, λ d. at_leg x.first x.rest h x.goes (no_next p s t names (sound_once sound) i k a x h f))
+
+-- the names after the first, by their places among all
+pub name_behind : (names : List LegName) (i : ℕ) →
+    get_or names (i + 1) no_name ≡ get_or (take (length names - 1) (drop 1 names)) i no_name
+name_behind names i =
+    let z : i + 1 ≡ 1 + i = omega arith in
+    ap (λ k. get_or names k no_name) z ∙ sym (get_or_after_one names i no_name)
+    ∙ ap (λ ns. get_or ns i no_name) (sym (take_rest names 1))
+
 -- ---- all names, or a beginning of them
 pub ridden : {p : Plan} {s t : ℕ} {names : List LegName} {i : ℕ} {a : Leg} {k : ℕ} → Trail p s t names i a k →
-    i ≡ length names → a.comes < time_bound → Ridden p s t names (record { last = a; boats = k })
-ridden {p} {s} {t} {names} {i} x all h = record {
+    i ≡ length names → Ridden p s t names (record { last = a; boats = k })
+ridden {p} {s} {t} {names} {i} x all = record {
   first = x.first;
   rest = x.rest;
   goes = subst (λ ns. Goes p s t ns x.first x.rest) (take_all i names (omega arith)) x.goes;
   is_last = x.is_last;
   taken = x.taken;
-  in_time = h;
+  in_time = x.within.comes;
 }
 
 -- a beginning of a chain is a chain
@@ -196,27 +219,31 @@ not_along {i = i} (at_leg first rest h _ never) l g = never g.0 (take i g.1.0) (
 not_along (at_no_end first rest _ e) l g = omega arith
 not_along (on_no_foot h e) l g = omega (arith, ap length h)
 
-pub rides_decides : (p : Plan) (s t : ℕ) (names : List LegName) (r : Result Ride ℕ) → Rides p s t names r →
+pub rides_decides : (p : Plan) (s t : ℕ) (names : List LegName) (r : Result Ride Broken) → Rides p s t names r →
     Decides (is_ok r) (GoneAlong p s t names)
 rides_decides p s t names (Ok r) x = ((λ _. (x.first, (x.rest, x.goes))), (λ _. refl))
-rides_decides p s t names (Err i) x =
+rides_decides p s t names (Err b) x =
     ((λ e. absurd (both_ways false refl e)), (λ g. absurd (not_along (x.1 0) x.0 g)))
 
 -- ---- what is told at the end
 module _ (p : Plan) (s t d : ℕ) (names : List LegName) where
-  pub told_all : (r : Ride) (o : Option ℕ) → Ridden p s t names r → EarliestEnd p d r.last.to r.last.comes o →
-      Verdict p s t d names (told o r.boats (length names))
-  told_all r o x e = by o (subst (λ c. EarliestEnd p d c.to c.comes o) (sym x.is_last) e)
-    where
-      by : (o : Option ℕ) → EarliestEnd p d (last x.first x.rest).to (last x.first x.rest).comes o →
-          Verdict p s t d names (told o r.boats (length names))
-      by (Some u) e = subst (λ n. Reaching p s t d names u n) x.taken (by_boat x.first x.rest x.goes e)
-      by None e = at_no_end x.first x.rest x.goes e
-
   no_names : (ns : List LegName) → length ns < 1 → ns ≡ []
   no_names [] h = refl
   no_names (n ∷ ns) h = absurd (omega arith)
 
-  pub told_none : (o : Option ℕ) → length names < 1 → EarliestEnd p d s t o → Verdict p s t d names (told o 0 0)
-  told_none (Some u) e h = subst (λ ns. Reaching p s t d ns u 0) (sym (no_names names e)) (on_no_boat h)
-  told_none None e h = on_no_foot (no_names names e) h
+  pub there_on_foot : (u : ℕ) → length names < 1 → EarliestEnd p d s t (Some u) → Reaching p s t d names u 0
+  there_on_foot u none e = subst (λ ns. Reaching p s t d ns u 0) (sym (no_names names none)) (on_no_boat e)
+
+  pub broken_on_foot : length names < 1 → EarliestEnd p d s t None → Breaking p s t d names 0
+  broken_on_foot none e = on_no_foot (no_names names none) e
+
+  pub there_by_boat : (u : ℕ) (r : Ride) → Ridden p s t names r → EarliestEnd p d r.last.to r.last.comes (Some u) →
+      Reaching p s t d names u r.boats
+  there_by_boat u r x e =
+      subst (λ n. Reaching p s t d names u n) x.taken
+      (by_boat x.first x.rest x.goes (subst (λ c. EarliestEnd p d c.to c.comes (Some u)) (sym x.is_last) e))
+
+  pub broken_at_end : (r : Ride) → Ridden p s t names r → EarliestEnd p d r.last.to r.last.comes None →
+      Breaking p s t d names (length names)
+  broken_at_end r x e =
+      at_no_end x.first x.rest x.goes (subst (λ c. EarliestEnd p d c.to c.comes None) (sym x.is_last) e)

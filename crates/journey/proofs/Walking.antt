@@ -1,7 +1,8 @@
 -- Walks, between boats and at the end: they take time, and each has a place in the plan.
-use Rattle.std.proofs.Common.{◌≡◌, ℕ, zero, suc, ◌+◌, ◌<◌, ◌≤◌, true, false, ◌||◌, ◌⊎◌, List, [], ◌∷◌, length, get_or, drop, sym, refl, ap, ◌∙◌, inl, inr, add-one, arith, drop-cons}
-use lib.Seq.{drop-length}
-use Rattle.std.proofs.lemmas.Bool.{false≢true, or_cases, or_left, or_right}
+use Rattle.std.proofs.Common.{◌≡◌, ℕ, zero, suc, ◌+◌, ◌<◌, ◌≤◌, true, false, ◌||◌, ◌⊎◌, List, [], ◌∷◌, length, map, get_or, sym, refl, ap, ◌∙◌, inl, inr, arith}
+use Rattle.std.specs.List.{list_any, range_with_len}
+use Rattle.std.proofs.lemmas.List.FromFn.{fill_by_all}
+use Rattle.std.proofs.lemmas.Bool.{false≢true, or_cases, or_right}
 use Rattle.std.proofs.lemmas.Bool.Decides.{nat_tests}
 use Rattle.plan.specs.declared.walk.Walk.{Walk}
 use Rattle.plan.specs.Legs.{Plan, walk, no_walk}
@@ -70,25 +71,21 @@ walks_at (w ∷ ws) s t d u (suc i) h e f l = or_right _ (walks_to ws s t d u) (
 pub walked_back : (ws : List Walk) (s t d u : ℕ) → Walked ws s t d u → walks_to ws s t d u ≡ true
 walked_back ws s t d u x = walks_at ws s t d u x.place x.within x.from x.to x.in_time
 
--- A search of the walks, one after the other: what is left of them from the place i on gives what all of them give. A
--- walk that does not lead there is passed over, one that does ends the search, and past the last there is none.
+-- a search of the walks by their places in the plan finds what a search of their list does
+walks_map : (f : ℕ → Walk) (js : List ℕ) (s t d u : ℕ) →
+    list_any (λ j. leads (f j) s t d u) js ≡ walks_to (map f js) s t d u
+unfolding walks_to
+walks_map f [] s t d u = refl
+walks_map f (j ∷ js) s t d u = ap (λ b. leads (f j) s t d u || b) (walks_map f js s t d u)
 
-pub walks_skip : (ws : List Walk) (i s t d u : ℕ) → i < length ws → leads (get_or ws i no_walk) s t d u ≡ false →
-    walks_to (drop (i + 1) ws) s t d u ≡ walks_to (drop i ws) s t d u
-walks_skip ws i s t d u h e =
-    let f = ap (λ vs. walks_to vs s t d u) (drop-cons ws i no_walk h) in
-    let g = walks_to_more (get_or ws i no_walk) (drop (suc i) ws) s t d u in
-    rw add-one (sym (f ∙ g ∙ ap (λ b. b || walks_to (drop (suc i) ws) s t d u) e))
+pub walks_placed : (ws : List Walk) → map (λ j. get_or ws j no_walk) (range_with_len 0 (length ws)) ≡ ws
+walks_placed ws = sym (fill_by_all (λ j. get_or ws j no_walk) ws (length ws) no_walk refl (λ k _. refl))
 
-pub walks_found : (ws : List Walk) (i s t d u : ℕ) → i < length ws → leads (get_or ws i no_walk) s t d u ≡ true →
-    walks_to (drop i ws) s t d u ≡ true
-walks_found ws i s t d u h e =
-    let f = ap (λ vs. walks_to vs s t d u) (drop-cons ws i no_walk h) in
-    let g = walks_to_more (get_or ws i no_walk) (drop (suc i) ws) s t d u in
-    f ∙ g ∙ or_left _ (walks_to (drop (suc i) ws) s t d u) e
-
-pub walks_all : (ws : List Walk) (s t d u : ℕ) → walks_to (drop (length ws) ws) s t d u ≡ false
-walks_all ws s t d u = rw drop-length (walks_to_none s t d u)
+pub walks_by_place : (ws : List Walk) (s t d u : ℕ) →
+    list_any (λ j. leads (get_or ws j no_walk) s t d u) (range_with_len 0 (length ws)) ≡ walks_to ws s t d u
+walks_by_place ws s t d u =
+    walks_map (λ j. get_or ws j no_walk) (range_with_len 0 (length ws)) s t d u
+    ∙ ap (λ vs. walks_to vs s t d u) (walks_placed ws)
 
 -- the end of a journey takes no less than nothing
 pub ends_le : {p : Plan} {d s t u : ℕ} → Ends p d s t u → t ≤ u

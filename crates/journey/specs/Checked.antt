@@ -1,18 +1,14 @@
 -- A journey told by the names of its legs, and what the check of it says.
-use Rattle.std.specs.Prelude.{◌≡◌, ℕ, suc, ◌+◌, ◌<◌, ◌≤◌, min, Bool, cond, ◌&&◌, List, [], ◌∷◌, map, length, take, Some, None, Ok, Err, Option, Result, ◌==◌}
+use Rattle.std.specs.Prelude.{◌≡◌, ℕ, suc, ◌+◌, ◌<◌, ◌≤◌, Bool, cond, ◌&&◌, List, [], ◌∷◌, ◌++◌, map, length, take, codes, decimal, Some, None, Ok, Err, Option, Result, ◌==◌}
 use Rattle.plan.specs.declared.leg.Leg.{Leg}
 use Rattle.plan.specs.declared.walk.Walk.{Walk}
-use Rattle.plan.specs.Legs.{Plan, runs, time_bound}
-use Rattle.journey.specs.declared.name.LegName.{LegName}
+use Rattle.plan.specs.Legs.{Plan, name, runs, time_bound}
+use Rattle.plan.specs.declared.name.LegName.{LegName}
 use Rattle.journey.specs.declared.checking.Ride.{Ride}
-use Rattle.journey.specs.declared.checking.Checked.{Checked}
-use Rattle.journey.specs.declared.checking.Checked.TheVariants.{Reaches, Broken}
+use Rattle.journey.specs.declared.checking.Broken.{Broken}
+use Rattle.marks.specs.declared.mark.Mark.{Mark}
 use Rattle.journey.specs.Steps.{stays, follows, begins}
 use Rattle.journey.specs.Journeys.{Journey, Ends, boats, last}
-
--- run and number name a leg
-abbrev pub name : Leg → LegName
-name a = record { run = a.run; number = a.number }
 
 -- ---- the end of a journey
 
@@ -20,14 +16,9 @@ name a = record { run = a.run; number = a.number }
 abbrev pub between : Walk → ℕ → ℕ → Bool
 between w s d = w.from == s && w.to == d
 
--- the earlier of a time that there may be and another
-abbrev pub sooner : Option ℕ → ℕ → Option ℕ
-sooner None t = Some t
-sooner (Some u) t = Some (min u t)
-
--- a time that there may be, or the walk's from the pier s at the time t, where it goes to the pier d and is earlier
-abbrev pub by_walk : Option ℕ → Walk → ℕ → ℕ → ℕ → Option ℕ
-by_walk best w s t d = cond (between w s d) (sooner best (t + w.takes)) best
+-- when who is at the pier s at the time t is at the pier d by the walk, if it goes from the one to the other
+abbrev pub there_by : Walk → ℕ → ℕ → ℕ → Option ℕ
+there_by w s t d = cond (between w s d) (Some (t + w.takes)) None
 
 -- when who is at the pier s at the time t can be at the pier d at the earliest, if at all
 abbrev pub EarliestEnd : Plan → ℕ → ℕ → ℕ → Option ℕ → Type 0
@@ -60,11 +51,6 @@ next_leg p a n = only (follows p a) (going_leg p n)
 -- with how many boats one is aboard of the next leg
 abbrev pub boats_after : ℕ → Leg → Leg → ℕ
 boats_after k a b = cond (stays a b) k (k + 1)
-
--- what is told once all legs were gone through
-abbrev pub told : Option ℕ → ℕ → ℕ → Checked
-told (Some u) k n = Reaches u k
-told None k n = Broken n
 
 -- these are the names of the legs of a journey from the pier s at the time t
 pub record Goes (p : Plan) (s t : ℕ) (names : List LegName) (first : Leg) (rest : List Leg) : Type 0 where
@@ -102,11 +88,15 @@ pub record Ridden (p : Plan) (s t : ℕ) (names : List LegName) (r : Ride) : Typ
   pub in_time : r.last.comes < time_bound
 
 -- or it breaks at one of them, wherever it should lead
-abbrev pub Rides : Plan → ℕ → ℕ → List LegName → Result Ride ℕ → Type 0
+abbrev pub Rides : Plan → ℕ → ℕ → List LegName → Result Ride Broken → Type 0
 Rides p s t names (Ok r) = Ridden p s t names r
-Rides p s t names (Err i) = (i < length names) × ((d : ℕ) → Breaking p s t d names i)
+Rides p s t names (Err b) = (b.place < length names) × ((d : ℕ) → Breaking p s t d names b.place)
 
 -- what the check says of a journey by names
-abbrev pub Verdict : Plan → ℕ → ℕ → ℕ → List LegName → Checked → Type 0
-Verdict p s t d names (Reaches u k) = Reaching p s t d names u k
-Verdict p s t d names (Broken i) = Breaking p s t d names i
+abbrev pub Verdict : Plan → ℕ → ℕ → ℕ → List LegName → Result Mark Broken → Type 0
+Verdict p s t d names (Ok m) = Reaching p s t d names m.arrival m.boats
+Verdict p s t d names (Err b) = Breaking p s t d names b.place
+
+-- `broken at 1`
+abbrev pub broken_text : Broken → List ℕ
+broken_text b = codes "broken at " ++ decimal b.place

@@ -1,147 +1,91 @@
 // A journey that is told by the names of its legs, checked against the plan.
-ghost use Rattle.std.specs.Prelude.{◌≡◌, ◌+◌, ◌<◌, ◌&&◌, length, Decides, MatchOption, ◌==◌};
+ghost use Rattle.std.specs.Prelude.{◌≡◌, ◌+◌, ◌^◌, ◌<◌, length, Decides, Some};
 ghost use Rattle.plan.specs.Legs.{piers, time_bound};
 ghost use Rattle.plan.specs.Words.{plan_in};
 ghost use Rattle.plan.specs.Sound.{LegWithin};
-ghost use Rattle.journey.specs.Checked.{between, sooner, by_walk, EarliestEnd, find_leg, going_leg, first_leg, next_leg, boats_after, told, Rides, GoneAlong, Verdict};
+ghost use Rattle.journey.specs.Checked.{there_by, EarliestEnd, find_leg, going_leg, first_leg, next_leg, boats_after, broken_text, Rides, GoneAlong, Verdict};
 
-use crate::name::LegName;
+use crate::at::At;
+use crate::question::Question;
 use crate::steps::{begins, follows, stays};
+use marks::mark::Mark;
 use plan::leg::Leg;
+use plan::name::LegName;
 use plan::timetable::Timetable;
 use plan::walk::Walk;
+use std::error::Error;
+use std::fmt;
 
-#[derive(Clone, Copy)]
-pub enum Checked {
-    // The journey is there at this time, with so many boats.
-    Reaches { arrival: u64, boats: u64 },
-    // The first leg that is not in the plan, does not run, or does not follow; the count of legs, where the last does not
-    // lead to the pier.
-    Broken(usize),
+// Where a journey breaks: at the first leg that is not in the plan, does not run, or does not follow; at the count of
+// legs, where the last does not lead to the pier.
+#[derive(Clone, Copy, Debug, PartialEq, Eq)]
+pub struct Broken {
+    pub place: usize,
 }
 
-// The walk goes from the one pier to the other.
-fn is_between(walk: Walk, from: u64, to: u64) -> bool
-    ensures { result ≡ between walk from to }
-{
-    walk.from == from && walk.to == to
-}
+impl fmt::Display for Broken {
+    ghost output = { λ broken. Some (broken_text broken) };
 
-// The earlier of a time that there may be and another.
-fn earlier(best: Option<u64>, time: u64) -> Option<u64>
-    ensures { result ≡ sooner best time }
-{
-    match best {
-        Some(before) => Some(before.min(time)),
-        None => Some(time),
+    fn fmt<W: fmt::Write>(&self, f: &mut fmt::Formatter<W>) -> fmt::Result {
+        let place = self.place;
+        write!(f, "broken at {place}")
     }
 }
 
-// The earlier of the best so far and of the walk, where it leads from the one pier to the other.
-fn by_walk(best: Option<u64>, walk: Walk, pier: u64, time: u64, to: u64) -> Option<u64>
-    requires time { time < time_bound }
-    requires takes { walk.takes < time_bound }
-    ensures { result ≡ by_walk best walk pier time to }
+impl Error for Broken {}
+
+// When one is there by the walk, if it leads from where one is to the pier.
+fn there_by(walk: Walk, at: At, to: u64) -> Option<u64>
+    requires { at.time + walk.takes < 2 ^ 64 }
+    ensures { result ≡ there_by walk at.pier at.time to }
 {
-    if is_between(walk, pier, to) {
-        earlier(best, time + walk.takes)
-    } else {
-        best
-    }
+    (walk.from == at.pier && walk.to == to).then_some(at.time + walk.takes)
 }
 
 // When who is at a pier at a time can be at another at the earliest: at once where it is that pier, else by a walk.
-pub fn ends(table: Timetable<'_>, pier: u64, time: u64, to: u64) -> Option<u64>
-    requires { time < time_bound }
-    ensures { EarliestEnd (plan_in table.entry.words.now) to pier time result }
+pub fn ends(table: Timetable<'_>, at: At, to: u64) -> Option<u64>
+    requires { at.time < time_bound }
+    ensures { EarliestEnd (plan_in table.entry.words.now) to at.pier at.time result }
 {
-    if pier == to {
-        return Some(time);
+    if at.pier == to {
+        return Some(at.time);
     }
-    let mut best = None;
-    for j in 0..table.walks() {
-        best = by_walk(best, table.walk(j), pier, time, to);
-    }
-    best
-}
-
-// The leg has the name.
-fn is_named(leg: Leg, name: LegName) -> bool
-    ensures { result ≡ (leg.run == name.run) && (leg.number == name.number) }
-{
-    leg.run == name.run && leg.number == name.number
+    (0..table.walks())
+        .filter_map(|j| there_by(table.walk(j), at, to))
+        .min()
 }
 
 // The leg of that name, if the plan has one.
 fn find_leg(table: Timetable<'_>, name: LegName) -> Option<Leg>
-    ensures value { result ≡ find_leg name (plan_in table.entry.words.now).legs }
-    ensures within { MatchOption result Unit (LegWithin (piers (plan_in table.entry.words.now))) }
+    ensures { result ≡ find_leg name (plan_in table.entry.words.now).legs }
 {
-    for i in 0..table.legs() {
-        let leg = table.leg(i);
-        if is_named(leg, name) {
-            return Some(leg);
-        }
-    }
-    None
+    (0..table.legs())
+        .map(|i| table.leg(i))
+        .find(|leg| leg.name() == name)
 }
 
 // The leg of that name, if the plan has one and it runs.
 fn going_leg(table: Timetable<'_>, name: LegName) -> Option<Leg>
-    ensures value { result ≡ going_leg (plan_in table.entry.words.now) name }
-    ensures within { MatchOption result Unit (LegWithin (piers (plan_in table.entry.words.now))) }
+    ensures { result ≡ going_leg (plan_in table.entry.words.now) name }
 {
-    let leg = find_leg(table, name)?;
-    if leg.runs() { Some(leg) } else { None }
+    find_leg(table, name).filter(|leg| leg.runs())
 }
 
-// The leg of that name, if a journey from the pier at the time can begin with it.
-fn first_leg(table: Timetable<'_>, pier: u64, time: u64, name: LegName) -> Option<Leg>
-    ensures value { result ≡ first_leg (plan_in table.entry.words.now) pier time name }
-    ensures within { MatchOption result Unit (LegWithin (piers (plan_in table.entry.words.now))) }
+// The leg of that name, if a journey can begin with it.
+fn first_leg(table: Timetable<'_>, at: At, name: LegName) -> Option<Leg>
+    ensures { result ≡ first_leg (plan_in table.entry.words.now) at.pier at.time name }
 {
     let leg = going_leg(table, name)?;
-    if begins(table, pier, time, leg) {
-        Some(leg)
-    } else {
-        None
-    }
+    begins(table, at, leg).then_some(leg)
 }
 
 // The leg of that name, if it follows the one before.
 fn next_leg(table: Timetable<'_>, before: Leg, name: LegName) -> Option<Leg>
     requires { LegWithin (piers (plan_in table.words.now)) before }
-    ensures value { result ≡ next_leg (plan_in table.entry.words.now) before name }
-    ensures within { MatchOption result Unit (LegWithin (piers (plan_in table.entry.words.now))) }
+    ensures { result ≡ next_leg (plan_in table.entry.words.now) before name }
 {
     let leg = going_leg(table, name)?;
-    if follows(table, before, leg) {
-        Some(leg)
-    } else {
-        None
-    }
-}
-
-// With how many boats one is aboard of the next leg: one more, unless one stays aboard for it.
-fn boats_after(boats: u64, before: Leg, next: Leg) -> u64
-    requires { boats + 1 < 18446744073709551616 }
-    ensures { result ≡ boats_after boats before next }
-{
-    if stays(before, next) {
-        boats
-    } else {
-        boats + 1
-    }
-}
-
-// What is told once all legs were gone through: the journey is there, or its last leg does not lead to the pier.
-fn told(arrival: Option<u64>, boats: u64, legs: usize) -> Checked
-    ensures { result ≡ told arrival boats legs }
-{
-    match arrival {
-        Some(arrival) => Checked::Reaches { arrival, boats },
-        None => Checked::Broken(legs),
-    }
+    follows(table, before, leg).then_some(leg)
 }
 
 // A journey that was gone along by the names of its legs: the last leg, and the boats up to it.
@@ -151,54 +95,63 @@ struct Ride {
     boats: u64,
 }
 
-// Goes along a journey from a pier at a time by the names of its legs, or as far as the first name that breaks it.
-fn go_along(table: Timetable<'_>, from: u64, time: u64, legs: &[LegName]) -> Result<Ride, usize>
-    requires { 0 < length legs.now }
-    ensures { Rides (plan_in table.entry.words.now) from time legs.now result }
-{
-    let Some(boarded) = first_leg(table, from, time, legs[0]) else {
-        return Err(0);
-    };
-    let mut last = boarded;
-    let mut boats = 1;
-    for i in 1..legs.len() {
-        let Some(next) = next_leg(table, last, legs[i]) else {
-            return Err(i);
+impl Ride {
+    // One leg further: with one boat more, unless one stays aboard for it.
+    fn with(self, next: Leg) -> Ride
+        requires { self.boats + 1 < 2 ^ 64 }
+        ensures { result ≡ record { last = next; boats = boats_after self.boats self.last next } }
+    {
+        let boats = if stays(self.last, next) {
+            self.boats
+        } else {
+            self.boats + 1
         };
-        boats = boats_after(boats, last, next);
-        last = next;
+        Ride { last: next, boats }
     }
-    Ok(Ride { last, boats })
+}
+
+// Goes along a journey by the names of its legs, or as far as the first name that breaks it.
+fn go_along(table: Timetable<'_>, at: At, legs: &[LegName]) -> Result<Ride, Broken>
+    requires { 0 < length legs.now }
+    ensures { Rides (plan_in table.entry.words.now) at.pier at.time legs.now result }
+{
+    let last = first_leg(table, at, legs[0]).ok_or(Broken { place: 0 })?;
+    let mut ride = Ride { last, boats: 1 };
+    for (i, name) in legs[1..].iter().enumerate() {
+        let next = next_leg(table, ride.last, *name).ok_or(Broken { place: i + 1 })?;
+        ride = ride.with(next);
+    }
+    Ok(ride)
 }
 
 // These are the names of the legs of a journey from the pier at the time, wherever it leads.
-pub fn goes(table: Timetable<'_>, from: u64, time: u64, legs: &[LegName]) -> bool
+pub fn goes(table: Timetable<'_>, at: At, legs: &[LegName]) -> bool
     requires { 0 < length legs.now }
-    ensures { Decides result (GoneAlong (plan_in table.entry.words.now) from time legs.now) }
+    ensures { Decides result (GoneAlong (plan_in table.entry.words.now) at.pier at.time legs.now) }
 {
-    go_along(table, from, time, legs).is_ok()
+    go_along(table, at, legs).is_ok()
 }
 
-// A journey from a pier at a time to a pier, by the names of its legs: the mark that it reaches, or where it breaks.
+// A journey that is to answer the question, by the names of its legs: the mark that it reaches, or where it breaks.
 pub fn check_journey(
     table: Timetable<'_>,
-    from: u64,
-    time: u64,
-    to: u64,
+    question: Question,
     legs: &[LegName],
-) -> Checked
-    requires { time < time_bound }
-    ensures { Verdict (plan_in table.entry.words.now) from time to legs.now result }
+) -> Result<Mark, Broken>
+    requires { question.time < time_bound }
+    ensures { Verdict (plan_in table.entry.words.now) question.from question.time question.to
+        legs.now result }
 {
     if legs.is_empty() {
-        return told(ends(table, from, time, to), 0, 0);
+        let on_foot = ends(table, question.outset(), question.to);
+        let arrival = on_foot.ok_or(Broken { place: 0 })?;
+        return Ok(Mark { arrival, boats: 0 });
     }
-    match go_along(table, from, time, legs) {
-        Ok(ride) => told(
-            ends(table, ride.last.to, ride.last.comes, to),
-            ride.boats,
-            legs.len(),
-        ),
-        Err(i) => Checked::Broken(i),
-    }
+    let ride = go_along(table, question.outset(), legs)?;
+    let end = ends(table, At::arrival_of(ride.last), question.to);
+    let arrival = end.ok_or(Broken { place: legs.len() })?;
+    Ok(Mark {
+        arrival,
+        boats: ride.boats,
+    })
 }

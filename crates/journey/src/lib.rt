@@ -1,7 +1,7 @@
 // What follows what, and what a journey is.
 #![tactic(auto)]
 
+pub mod at;
 pub mod checking;
-pub mod name;
 pub mod question;
 pub mod steps;

@@ -5,6 +5,7 @@ ghost use Rattle.plan.specs.Words.{plan_in};
 ghost use Rattle.plan.specs.Sound.{LegWithin};
 ghost use Rattle.journey.specs.Steps.{stays, catches, leads, change_for, changes, walks_to, walks, follows, begins};
 
+use crate::at::At;
 use plan::leg::Leg;
 use plan::timetable::Timetable;
 use plan::walk::Walk;
@@ -21,18 +22,18 @@ pub fn stays(a: Leg, b: Leg) -> bool
         && a.comes <= b.leaves
 }
 
-// Who is at the pier at the time catches the leg.
-pub fn catches(pier: u64, time: u64, a: Leg) -> bool
-    ensures { result ≡ catches pier time a }
+// Who is there catches the leg.
+pub fn catches(at: At, leg: Leg) -> bool
+    ensures { result ≡ catches at.pier at.time leg }
 {
-    a.from == pier && time <= a.leaves
+    leg.from == at.pier && at.time <= leg.leaves
 }
 
-// The walk leads from a pier, left at a time, to a pier by a time.
-pub fn leads(w: Walk, from: u64, time: u64, to: u64, by: u64) -> bool
-    ensures { result ≡ leads w from time to by }
+// The walk leads from the one to the other, in time.
+pub fn leads(w: Walk, from: At, to: At) -> bool
+    ensures { result ≡ leads w from.pier from.time to.pier to.time }
 {
-    w.from == from && w.to == to && time <= by && w.takes <= by - time
+    w.from == from.pier && w.to == to.pier && from.time <= to.time && w.takes <= to.time - from.time
 }
 
 // The minutes that a change from one leg to another takes: those of the pier.
@@ -49,26 +50,21 @@ pub fn changes(table: Timetable<'_>, a: Leg, b: Leg) -> bool
     requires { LegWithin (piers (plan_in table.words.now)) a }
     ensures { result ≡ changes (plan_in table.entry.words.now) a b }
 {
-    catches(a.to, a.comes + change_for(table, a, b), b)
+    catches(At::arrival_of(a).after(change_for(table, a, b)), b)
 }
 
-// Some walk leads from a pier, left at a time, to a pier by a time.
-pub fn walks_to(table: Timetable<'_>, from: u64, time: u64, to: u64, by: u64) -> bool
-    ensures { result ≡ walks_to (plan_in table.entry.words.now).walks from time to by }
+// Some walk leads from the one to the other, in time.
+pub fn walks_to(table: Timetable<'_>, from: At, to: At) -> bool
+    ensures { result ≡ walks_to (plan_in table.entry.words.now).walks from.pier from.time to.pier to.time }
 {
-    for j in 0..table.walks() {
-        if leads(table.walk(j), from, time, to, by) {
-            return true;
-        }
-    }
-    false
+    (0..table.walks()).any(|j| leads(table.walk(j), from, to))
 }
 
 // One walks from the pier where the first leg comes to the one that the second goes from.
 pub fn walks(table: Timetable<'_>, a: Leg, b: Leg) -> bool
     ensures { result ≡ walks (plan_in table.entry.words.now) a b }
 {
-    walks_to(table, a.to, a.comes, b.from, b.leaves)
+    walks_to(table, At::arrival_of(a), At::departure_of(b))
 }
 
 // One leg follows another: one stays aboard for it, changes boats, or walks.
@@ -79,9 +75,9 @@ pub fn follows(table: Timetable<'_>, a: Leg, b: Leg) -> bool
     stays(a, b) || changes(table, a, b) || walks(table, a, b)
 }
 
-// A journey from a pier at a time can begin with the leg: one catches it there, or where a walk leads in time.
-pub fn begins(table: Timetable<'_>, pier: u64, time: u64, a: Leg) -> bool
-    ensures { result ≡ begins (plan_in table.entry.words.now) pier time a }
+// A journey can begin with the leg: one catches it there, or where a walk leads in time.
+pub fn begins(table: Timetable<'_>, at: At, leg: Leg) -> bool
+    ensures { result ≡ begins (plan_in table.entry.words.now) at.pier at.time leg }
 {
-    catches(pier, time, a) || walks_to(table, pier, time, a.from, a.leaves)
+    catches(at, leg) || walks_to(table, at, At::departure_of(leg))
 }

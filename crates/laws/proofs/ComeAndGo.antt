@@ -27,11 +27,11 @@ extra_leg p a q =
     }
 
 pub cancelled_leg : CancelledLeg
-cancelled_leg p r k q =
-    let were_in = kept_in (λ a. not (named r k a)) p.legs in
+cancelled_leg p n q =
+    let were_in = kept_in (λ a. not (named n a)) p.legs in
     let was_there = λ (arrival taken : ℕ).
-    more_legs_keep_journeys (after p (Cancel r k)) p.legs q arrival taken were_in in
+    more_legs_keep_journeys (after p (Cancel n)) p.legs q arrival taken were_in in
     record {
       reached = was_there;
-      no_better_off = λ most ms ns x y n i. x.all n (was_there n.arrival n.boats (y.reached n i)) (y.few n i);
+      no_better_off = λ most ms ns x y m i. x.all m (was_there m.arrival m.boats (y.reached m i)) (y.few m i);
     }

@@ -94,7 +94,7 @@ module _ (p : Plan) (rs more : List Request) where
   abbrev left : Plan
   left = plan_at p rs (length rs)
 
-  module _ (said next : List Response) (many : length said ≡ length rs) where
+  module _ (said next : List (Result Response Refusal)) (many : length said ≡ length rs) where
     first_part : Served p (rs ++ more) (said ++ next) → Served p rs said
     first_part s = record {
       each = many;
@@ -105,7 +105,7 @@ module _ (p : Plan) (rs more : List Request) where
     }
 
     -- the response at a place of the second part
-    next_at : (i : ℕ) (a : Response) → get_or (said ++ next) (length rs + i) a ≡ get_or next i a
+    next_at : (i : ℕ) (a : Result Response Refusal) → get_or (said ++ next) (length rs + i) a ≡ get_or next i a
     next_at i a = ap (λ (n : ℕ). get_or (said ++ next) (n + i) a) (sym many) ∙ get_or-append-add said next i a
 
     second_part : Served p (rs ++ more) (said ++ next) → Served left more next
@@ -125,14 +125,14 @@ module _ (p : Plan) (rs more : List Request) where
           (cases_lt i (length rs));
     }
       where
-        in_first : (i : ℕ) (r : Request) (a : Response) → i < length rs → get_or (rs ++ more) i r ≡ r →
+        in_first : (i : ℕ) (r : Request) (a : Result Response Refusal) → i < length rs → get_or (rs ++ more) i r ≡ r →
             get_or (said ++ next) i a ≡ a → Right (plan_at p (rs ++ more) i) r a
         in_first i r a l is so =
             subst (λ (q : Plan). Right q r a) (sym (earlier i (omega arith)))
             (s.right i r a l (sym (get_or_append_left rs more r i l) ∙ is)
             (sym (get_or_append_left said next a i (omega arith)) ∙ so))
 
-        in_second : (i j : ℕ) (r : Request) (a : Response) → length rs + j ≡ i → i < length (rs ++ more) →
+        in_second : (i j : ℕ) (r : Request) (a : Result Response Refusal) → length rs + j ≡ i → i < length (rs ++ more) →
             get_or (rs ++ more) i r ≡ r → get_or (said ++ next) i a ≡ a → Right (plan_at p (rs ++ more) i) r a
         in_second i j r a e l is so =
             subst (λ (n : ℕ). Right (plan_at p (rs ++ more) n) r a) e

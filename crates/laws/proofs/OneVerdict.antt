@@ -1,14 +1,15 @@
 -- A journey told by the names of its legs has one verdict.
-use Rattle.std.proofs.Common.{◌≡◌, ℕ, suc, ◌<◌, ◌≤◌, true, List, [], ◌∷◌, map, length, take, Some, None, Option, sym, refl, ap, ◌∙◌, subst, ⊎_elim, arith}
+use Rattle.std.proofs.Common.{◌≡◌, ℕ, suc, ◌<◌, ◌≤◌, true, List, [], ◌∷◌, map, length, take, Some, None, Ok, Err, Option, sym, refl, ap, ◌∙◌, subst, ⊎_elim, arith}
 use Rattle.std.proofs.lemmas.List.{take-take}
 use Rattle.std.proofs.lemmas.Bool.{cases_lt}
 use Rattle.std.specs.List.{AllByRecursion}
 use Rattle.plan.specs.declared.leg.Leg.{Leg}
-use Rattle.plan.specs.Legs.{Plan}
-use Rattle.journey.specs.declared.name.LegName.{LegName}
-use Rattle.journey.specs.declared.checking.Checked.TheVariants.{Reaches, Broken}
+use Rattle.plan.specs.Legs.{Plan, name}
+use Rattle.plan.specs.declared.name.LegName.{LegName}
+use Rattle.journey.specs.declared.checking.Broken.{Broken}
+use Rattle.marks.proofs.Marks.{mark_ext}
 use Rattle.journey.specs.Journeys.{in_plan, joined, boats, last, Journey, NamedOnce}
-use Rattle.journey.specs.Checked.{name, EarliestEnd, Goes, Reaching, Breaking}
+use Rattle.journey.specs.Checked.{EarliestEnd, Goes, Reaching, Breaking}
 use Rattle.journey.specs.Checked.Reaching.{on_no_boat, by_boat}
 use Rattle.journey.specs.Checked.Breaking.{at_first, at_leg, at_no_end, on_no_foot}
 use Rattle.journey.proofs.Naming.{same_named}
@@ -189,14 +190,15 @@ not_both {p} {s} {t} {names = names} {u = u} {k = k} {i = i} once x y =
     let z : ◌≡◌ {A = ℕ} 0 1 = cc in
     omega arith
 
-reaches_same : {u v k n : ℕ} → Some u ≡ Some v → k ≡ n → Reaches u k ≡ Reaches v n
-reaches_same e f = cc
+broken_same : (b b₁ : Broken) → b.place ≡ b₁.place → b ≡ b₁
+broken_same b b₁ e = λ i. record { place = e i }
 
 pub one_verdict : OneVerdict
-one_verdict p s t d names (Reaches u k) (Reaches v n) once x y =
-    let same = ended_same (Some u) (Some v) k n once (reaching_ended x) (reaching_ended y) in
-    reaches_same same.0 same.1
-one_verdict p s t d names (Reaches u k) (Broken i) once x y = absurd (not_both once x y)
-one_verdict p s t d names (Broken i) (Reaches u k) once x y = absurd (not_both once y x)
-one_verdict p s t d names (Broken i) (Broken j) once x y =
-    ap Broken (far_same i j (breaking_far p s t x) (breaking_far p s t y))
+one_verdict p s t d names (Ok m) (Ok m₁) once x y =
+    let same = ended_same (Some m.arrival) (Some m₁.arrival) m.boats m₁.boats once (reaching_ended x) (reaching_ended y) in
+    let arrival : m.arrival ≡ m₁.arrival = (let some = same.0 in cc) in
+    ap Ok (mark_ext m m₁ arrival same.1)
+one_verdict p s t d names (Ok m) (Err b) once x y = absurd (not_both once x y)
+one_verdict p s t d names (Err b) (Ok m) once x y = absurd (not_both once y x)
+one_verdict p s t d names (Err b) (Err b₁) once x y =
+    ap Err (broken_same b b₁ (far_same b.place b₁.place (breaking_far p s t x) (breaking_far p s t y)))

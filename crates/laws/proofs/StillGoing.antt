@@ -1,12 +1,12 @@
 -- What still goes is a journey of the plan as it is, and nothing else does.
 use Rattle.std.proofs.Common.{◌≡◌, ℕ, List, [], ◌∷◌, map, sym, refl, ◌∙◌, subst, inl, inr, arith}
 use Rattle.plan.specs.declared.leg.Leg.{Leg}
-use Rattle.plan.specs.Legs.{Plan}
-use Rattle.journey.specs.declared.name.LegName.{LegName}
+use Rattle.plan.specs.Legs.{Plan, name}
+use Rattle.plan.specs.declared.name.LegName.{LegName}
 use Rattle.journey.specs.declared.question.Question.{Question}
 use Rattle.journey.specs.Journeys.{Journey}
 use Rattle.journey.specs.Journeys.Reached.{by_legs}
-use Rattle.journey.specs.Checked.{name, GoneAlong}
+use Rattle.journey.specs.Checked.{GoneAlong}
 use Rattle.itinerary.specs.Order.{Reaching}
 use Rattle.itinerary.specs.Order.Reaching.{on_foot_alone, by_legs_there}
 use Rattle.updates.specs.Still.{StillGoes}

@@ -1,6 +1,6 @@
 -- An itinerary in the plan of four piers, and what becomes of it on the day.
 use Rattle.std.specs.Prelude.{List, [], ◌∷◌}
-use Rattle.journey.specs.declared.name.LegName.{LegName}
+use Rattle.plan.specs.declared.name.LegName.{LegName}
 use Rattle.itinerary.specs.Order.{Itinerary}
 use Rattle.updates.specs.Still.{StillGoes}
 use Rattle.laws.specs.JourneyLaws.{asked}

@@ -1,6 +1,7 @@
 -- What happens to the plan of four piers on a day, and the answers after each update.
 use Rattle.std.specs.Prelude.{◌≡◌, ℕ, List, [], ◌∷◌, map, take}
 use Rattle.std.specs.List.{AllByRecursion}
+use Rattle.plan.specs.declared.name.LegName.{LegName}
 use Rattle.plan.specs.Legs.{Plan}
 use Rattle.marks.specs.declared.mark.Mark.{Mark}
 use Rattle.rounds.specs.Answers.{Answer}
@@ -11,13 +12,16 @@ use Rattle.serving.specs.Runs.{day, done}
 use Rattle.laws.specs.JourneyLaws.{asked}
 use Rattle.laws.specs.AnswerExamples.{leg_from, as_planned, there}
 
+abbrev leg_named : ℕ → ℕ → LegName
+leg_named r n = record { run = r; number = n }
+
 abbrev pub four_piers : Plan
 four_piers = as_planned
 
 -- Run 3 is two minutes late, so that run 1 comes in time for it; run 0 too, so that it misses run 1; then run 0 ends at
 -- pier 1, and an extra boat goes on from there.
 abbrev pub updates : List Update
-updates = Delay 3 0 2 ∷ Delay 0 0 2 ∷ Cancel 0 1 ∷ Extra (leg_from 9 0 1 3 25 33) ∷ []
+updates = Delay (leg_named 3 0) 2 ∷ Delay (leg_named 0 0) 2 ∷ Cancel (leg_named 0 1) ∷ Extra (leg_from 9 0 1 3 25 33) ∷ []
 
 -- how many updates there were, and the answers then to who is at pier 0 at 9 and takes at most three boats
 pub record DayRow : Type 0 where

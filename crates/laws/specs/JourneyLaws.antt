@@ -1,10 +1,11 @@
 -- The laws of journeys: what holds of them in every plan.
-use Rattle.std.specs.Prelude.{◌≡◌, ℕ, ◌+◌, ◌≤◌, Bool, true, false, ◌||◌, List, [], ◌∷◌, ◌++◌}
+use Rattle.std.specs.Prelude.{◌≡◌, ℕ, ◌+◌, ◌≤◌, Bool, true, false, ◌||◌, List, [], ◌∷◌, ◌++◌, Result}
 use Rattle.plan.specs.declared.leg.Leg.{Leg}
 use Rattle.plan.specs.Legs.{Plan, same_name, with_legs}
 use Rattle.journey.specs.declared.question.Question.{Question}
-use Rattle.journey.specs.declared.name.LegName.{LegName}
-use Rattle.journey.specs.declared.checking.Checked.{Checked}
+use Rattle.plan.specs.declared.name.LegName.{LegName}
+use Rattle.journey.specs.declared.checking.Broken.{Broken}
+use Rattle.marks.specs.declared.mark.Mark.{Mark}
 use Rattle.journey.specs.Steps.{stays, change_for}
 use Rattle.journey.specs.Journeys.{in_plan, boats, last, Ends, Journey, Reached, ReachedBy, NamedOnce}
 use Rattle.journey.specs.Checked.{Verdict}
@@ -82,5 +83,5 @@ NoLegTwice =
 -- it reaches the pier, at one time and with one count of boats, or that it breaks, at one place.
 abbrev pub OneVerdict : Type 0
 OneVerdict =
-    (p : Plan) (s t d : ℕ) (names : List LegName) (r r₁ : Checked) → NamedOnce p.legs →
+    (p : Plan) (s t d : ℕ) (names : List LegName) (r r₁ : Result Mark Broken) → NamedOnce p.legs →
     Verdict p s t d names r → Verdict p s t d names r₁ → r ≡ r₁

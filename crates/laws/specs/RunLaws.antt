@@ -1,5 +1,5 @@
 -- The laws of days and of runs: at each moment there is one plan, it may be used, and each question has one answer.
-use Rattle.std.specs.Prelude.{◌≡◌, ℕ, ◌+◌, ◌≤◌, List, ◌++◌, length}
+use Rattle.std.specs.Prelude.{◌≡◌, ℕ, ◌+◌, ◌≤◌, List, ◌++◌, length, Result}
 use Rattle.plan.specs.Legs.{Plan}
 use Rattle.plan.specs.Sound.{Few, Sound}
 use Rattle.journey.specs.declared.question.Question.{Question}
@@ -7,6 +7,7 @@ use Rattle.marks.specs.declared.mark.Mark.{Mark}
 use Rattle.rounds.specs.Answers.{Answer}
 use Rattle.updates.specs.declared.update.Update.{Update}
 use Rattle.serving.specs.declared.request.Request.{Request}
+use Rattle.plan.specs.declared.refusal.Refusal.{Refusal}
 use Rattle.serving.specs.declared.response.Response.{Response}
 use Rattle.serving.specs.Runs.{day, plan_at, Served}
 
@@ -30,9 +31,9 @@ UsableAtEachMoment =
 pub record RunInTwo (p : Plan) (rs more : List Request) : Type 0 where
   pub earlier : (i : ℕ) → i ≤ length rs → plan_at p (rs ++ more) i ≡ plan_at p rs i
   pub later : (i : ℕ) → plan_at p (rs ++ more) (length rs + i) ≡ plan_at (plan_at p rs (length rs)) more i
-  pub cut : (said next : List Response) → length said ≡ length rs → Served p (rs ++ more) (said ++ next) →
+  pub cut : (said next : List (Result Response Refusal)) → length said ≡ length rs → Served p (rs ++ more) (said ++ next) →
       Served p rs said × Served (plan_at p rs (length rs)) more next
-  pub joined : (said next : List Response) → Served p rs said → Served (plan_at p rs (length rs)) more next →
+  pub joined : (said next : List (Result Response Refusal)) → Served p rs said → Served (plan_at p rs (length rs)) more next →
       Served p (rs ++ more) (said ++ next)
 
 abbrev pub RunsInTwo : Type 0

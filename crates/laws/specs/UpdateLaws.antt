@@ -3,11 +3,10 @@
 use Rattle.std.specs.Prelude.{◌≡◌, ℕ, ◌+◌, true, List, ◌∷◌, map, Ok}
 use Rattle.std.specs.List.{AllByRecursion}
 use Rattle.plan.specs.declared.leg.Leg.{Leg}
-use Rattle.plan.specs.Legs.{Plan}
-use Rattle.journey.specs.declared.name.LegName.{LegName}
+use Rattle.plan.specs.Legs.{Plan, name}
+use Rattle.plan.specs.declared.name.LegName.{LegName}
 use Rattle.journey.specs.declared.question.Question.{Question}
 use Rattle.journey.specs.Journeys.{in_plan, boats, last, Ends, Journey, Reached, NamedOnce}
-use Rattle.journey.specs.Checked.{name}
 use Rattle.marks.specs.declared.mark.Mark.{Mark}
 use Rattle.marks.specs.Marks.{Among, covered}
 use Rattle.rounds.specs.Answers.{Answer}
@@ -19,23 +18,23 @@ use Rattle.laws.specs.JourneyLaws.{asked}
 
 -- ---- delays
 
--- Delays of one run from one number add up: two of them leave the plan that one of both times together leaves, and
+-- Delays from one leg on add up: two of them leave the plan that one of both times together leaves, and
 -- both are done exactly if that one is.
-pub record AddedUp (p : Plan) (r k d e : ℕ) : Type 0 where
-  pub plan : after (after p (Delay r k d)) (Delay r k e) ≡ after p (Delay r k (d + e))
-  pub done_by_one : update_checked p (Delay r k d) ≡ Ok tt →
-      update_checked (after p (Delay r k d)) (Delay r k e) ≡ Ok tt → update_checked p (Delay r k (d + e)) ≡ Ok tt
-  pub done_by_two : update_checked p (Delay r k (d + e)) ≡ Ok tt →
-      (update_checked p (Delay r k d) ≡ Ok tt) × (update_checked (after p (Delay r k d)) (Delay r k e) ≡ Ok tt)
+pub record AddedUp (p : Plan) (n : LegName) (d e : ℕ) : Type 0 where
+  pub plan : after (after p (Delay n d)) (Delay n e) ≡ after p (Delay n (d + e))
+  pub done_by_one : update_checked p (Delay n d) ≡ Ok tt →
+      update_checked (after p (Delay n d)) (Delay n e) ≡ Ok tt → update_checked p (Delay n (d + e)) ≡ Ok tt
+  pub done_by_two : update_checked p (Delay n (d + e)) ≡ Ok tt →
+      (update_checked p (Delay n d) ≡ Ok tt) × (update_checked (after p (Delay n d)) (Delay n e) ≡ Ok tt)
 
 abbrev pub DelaysAdd : Type 0
-DelaysAdd = (p : Plan) (r k d e : ℕ) → AddedUp p r k d e
+DelaysAdd = (p : Plan) (n : LegName) (d e : ℕ) → AddedUp p n d e
 
 -- any two delays may come in either order
 abbrev pub DelaysSwap : Type 0
 DelaysSwap =
-    (p : Plan) (r k d s j e : ℕ) →
-    after (after p (Delay r k d)) (Delay s j e) ≡ after (after p (Delay s j e)) (Delay r k d)
+    (p : Plan) (n : LegName) (d : ℕ) (m : LegName) (e : ℕ) →
+    after (after p (Delay n d)) (Delay m e) ≡ after (after p (Delay m e)) (Delay n d)
 
 -- ---- legs that come and go
 
@@ -50,13 +49,13 @@ ExtraLeg = (p : Plan) (a : Leg) (q : Question) → ExtraKeeps p a q
 
 -- A cancelled leg makes no journey that was not there. So each mark of the answer after it had one before it that is no
 -- worse.
-pub record CancelAddsNone (p : Plan) (r k : ℕ) (q : Question) : Type 0 where
-  pub reached : (arrival taken : ℕ) → Reached (after p (Cancel r k)) q arrival taken → Reached p q arrival taken
-  pub no_better_off : (most : ℕ) (ms ns : List Mark) → Answer p most q ms → Answer (after p (Cancel r k)) most q ns →
-      (n : Mark) → Among n ns → covered n ms ≡ true
+pub record CancelAddsNone (p : Plan) (n : LegName) (q : Question) : Type 0 where
+  pub reached : (arrival taken : ℕ) → Reached (after p (Cancel n)) q arrival taken → Reached p q arrival taken
+  pub no_better_off : (most : ℕ) (ms ns : List Mark) → Answer p most q ms → Answer (after p (Cancel n)) most q ns →
+      (m : Mark) → Among m ns → covered m ms ≡ true
 
 abbrev pub CancelledLeg : Type 0
-CancelledLeg = (p : Plan) (r k : ℕ) (q : Question) → CancelAddsNone p r k q
+CancelledLeg = (p : Plan) (n : LegName) (q : Question) → CancelAddsNone p n q
 
 -- ---- itineraries after updates
 

@@ -1,6 +1,6 @@
 -- The order of marks, covered marks and falling lists.
-use Rattle.std.proofs.Common.{◌≡◌, ℕ, ◌+◌, ◌<◌, ◌≤◌, Bool, true, false, ◌||◌, ltb, List, [], ◌∷◌, ◌++◌, length, get_or, drop, sym, refl, ap, ◌∙◌, arith, ltb-true}
-use Rattle.std.proofs.lemmas.List.{drop_more, drop_all}
+use Rattle.std.proofs.Common.{◌≡◌, ◌<◌, ◌≤◌, true, false, ◌||◌, ltb, List, [], ◌∷◌, ◌++◌, refl, ap, arith, ltb-true}
+use Rattle.std.specs.List.{list_any}
 use Rattle.std.proofs.lemmas.Bool.{and_parts, or_parts}
 use Rattle.std.proofs.lemmas.Bool.Decides.{nat_tests}
 use Rattle.marks.specs.declared.mark.Mark.{Mark}
@@ -115,20 +115,7 @@ falling_in_order (m ∷ n ∷ ns) (falling_more h k f) =
     let ih = falling_in_order (n ∷ ns) f in
     grind arith
 
--- A list walked from its first mark on: as long as no mark passed is no worse, the rest covers what the whole does.
-module _
-    (m : Mark) (ms : List Mark) (i : ℕ) (d : Mark) (whole : Bool)
-    (within : i < length ms) (was : covered m (drop i ms) ≡ whole)
-  where
-    opened : whole ≡ (no_worse (get_or ms i d) m || covered m (drop (i + 1) ms))
-    opened = sym was ∙ ap (covered m) (drop_more ms i d within)
-
-    pub covered_skip : no_worse (get_or ms i d) m ≡ false → covered m (drop (i + 1) ms) ≡ whole
-    covered_skip e = sym (opened ∙ ap (λ b. b || covered m (drop (i + 1) ms)) e)
-
-    pub covered_stop : no_worse (get_or ms i d) m ≡ true → whole ≡ true
-    covered_stop e = opened ∙ ap (λ b. b || covered m (drop (i + 1) ms)) e
-
-pub covered_end : (m : Mark) (ms : List Mark) (i : ℕ) (whole : Bool) →
-    length ms ≤ i → covered m (drop i ms) ≡ whole → whole ≡ false
-covered_end m ms i whole past was = sym was ∙ ap (covered m) (drop_all i ms past)
+-- a search of the list for a mark that is no worse
+pub covered_any : (m : Mark) (ms : List Mark) → list_any (λ n. no_worse n m) ms ≡ covered m ms
+covered_any m [] = refl
+covered_any m (n ∷ ns) = ap (λ b. no_worse n m || b) (covered_any m ns)

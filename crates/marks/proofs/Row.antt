@@ -1,7 +1,8 @@
 -- Marks written to a row, number by number.
 use Rattle.std.proofs.Common.{◌≡◌, ℕ, ◌+◌, ◌*◌, ◌<◌, ◌≤◌, false, ltb, List, [], ◌∷◌, ◌++◌, length, get_or, take, set, Ok, Result, sym, refl, ap, ◌∙◌, arith}
 use Rattle.std.proofs.lemmas.List.{take_more, take_all, length-take-le, length_push}
-use Rattle.std.proofs.lemmas.Bool.{ltb-false, cond-false}
+use Rattle.std.proofs.lemmas.Bool.{cond-false}
+use Rattle.std.proofs.lemmas.Bool.Decides.{nat_tests}
 use Rattle.plan.specs.declared.refusal.Refusal.{Refusal}
 use Rattle.marks.specs.declared.mark.Mark.{Mark}
 use Rattle.marks.specs.Row.{marks_words, front_words, over, row_room, row_after, row_reply}
@@ -59,17 +60,20 @@ module _
         at_next = omega (arith, length_push ws m.arrival, at)
 
 -- what the writer of a row with room owes
-module _ (ms all : List Mark) (xs : List ℕ) (are : ms ≡ all) (room : false ≡ ltb (length xs) row_room) where
+module _ (ms all : List Mark) (xs : List ℕ) (are : ms ≡ all) (room : row_room ≤ length xs) where
+  enough : ltb (length xs) row_room ≡ false
+  enough = grind (arith, nat_tests)
+
   pub row_told : Ok (length ms) ≡ row_reply all xs
   row_told =
       let done : List Mark → Result ℕ Refusal = λ l. Ok (length l) in
-      ap done are ∙ sym (cond-false (ltb (length xs) row_room) _ (done all) (sym room))
+      ap done are ∙ sym (cond-false (ltb (length xs) row_room) _ (done all) enough)
 
   pub row_all : (i : ℕ) (out : List ℕ) → length ms ≤ i →
       out ≡ over (length ms ∷ marks_words (take i ms)) (set xs 0 (length ms)) → out ≡ row_after all xs
   row_all i out past was =
       was
       ∙ ap (λ (l : List Mark). over (length ms ∷ marks_words l) (set xs 0 (length ms))) (take_all i ms past)
-      ∙ over_first (length ms) (marks_words ms) xs (let h = ltb-false (length xs) row_room (sym room) in omega arith)
+      ∙ over_first (length ms) (marks_words ms) xs (omega arith)
       ∙ ap (λ (l : List Mark). over (front_words l) xs) are
-      ∙ sym (cond-false (ltb (length xs) row_room) xs (over (front_words all) xs) (sym room))
+      ∙ sym (cond-false (ltb (length xs) row_room) xs (over (front_words all) xs) enough)

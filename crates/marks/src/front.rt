@@ -10,7 +10,8 @@ mod text;
 
 #[derive(Clone, Copy)]
 pub struct Front {
-    // The marks are the first so many of the row; what stands behind them is of no account.
+    // The marks are the first so many of the row; what stands behind them is of no account. An array and no Vec, since
+    // an answer uses no heap.
     row: [Mark; 9],
     count: usize,
     ghost nine: { length row ≡ 9 },

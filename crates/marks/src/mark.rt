@@ -5,7 +5,7 @@ ghost use Rattle.marks.specs.Texts.{mark_text};
 
 use std::fmt;
 
-#[derive(Clone, Copy)]
+#[derive(Clone, Copy, Debug, PartialEq, Eq)]
 pub struct Mark {
     // When one is there, in minutes.
     pub arrival: u64,

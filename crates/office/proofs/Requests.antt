@@ -1,9 +1,10 @@
 -- The requests of a file, one by one.
-use Rattle.std.proofs.Common.{◌≡◌, ℕ, ◌+◌, ◌*◌, ◌/◌, ◌<◌, min, List, [], ◌∷◌, ◌++◌, length, get_or, drop, Some, sym, refl, ap, ◌∙◌, subst, arith}
+use Rattle.std.proofs.Common.{◌≡◌, ℕ, ◌+◌, ◌*◌, ◌/◌, ◌<◌, min, List, [], ◌∷◌, ◌++◌, length, get_or, drop, Ok, sym, refl, ap, ◌∙◌, subst, arith}
 use Rattle.files.specs.Numbers.{numbers_in}
 use Rattle.serving.specs.declared.request.Request.{Request}
 use Rattle.office.specs.declared.kind.Kind.{Kind}
-use Rattle.office.specs.Requests.{kind_of, size_of, row, Made, Cut, behind, Written, no_requests, and_request}
+use Rattle.office.specs.Kinds.{kind_of, size_of}
+use Rattle.office.specs.Requests.{row, Made, Cut, behind, Written, no_requests, and_request}
 
 -- ---- rows of a length
 
@@ -43,7 +44,7 @@ written_none bs start rs e = subst (λ (xs : List Request). Written bs start xs 
 
 -- one request more
 pub written_more : (bs back ns : List ℕ) (start at size step : ℕ) (kind : Kind) (rs after : List Request) (r : Request) →
-    at < length bs → kind_of (get_or bs at 0) ≡ Some kind → back ≡ drop (at + 1) bs → size ≡ size_of kind back →
+    at < length bs → kind_of (get_or bs at 0) ≡ Ok kind → back ≡ drop (at + 1) bs → size ≡ size_of kind back →
     ns ≡ numbers_in (min size (length back / 4)) back → Made kind ns r → step ≡ min (length back) (4 * size) → after ≡ rs ++ r ∷ [] →
     Written bs start rs at → Written bs start after (at + (1 + step))
 written_more bs back ns start at size step kind rs after r h byte is_back is_size is_ns made is_step put so =

@@ -1,4 +1,5 @@
 pub mod Days
 pub mod Faults
+pub mod Kinds
 pub mod Requests
 pub mod Texts

@@ -1,6 +1,6 @@
 -- Requests in a file: a byte that says the kind, and then numbers of four bytes each.
-use Rattle.std.specs.Prelude.{◌≡◌, ℕ, ◌+◌, ◌*◌, ◌/◌, ◌<◌, ◌≤◌, min, cond, List, [], ◌∷◌, ◌++◌, length, drop, Some, None, vec_items, Option, ◌==◌, nat_lt, slice_index}
-use Rattle.files.specs.Numbers.{number_at, numbers_in}
+use Rattle.std.specs.Prelude.{◌≡◌, ℕ, ◌+◌, ◌*◌, ◌/◌, ◌<◌, ◌≤◌, min, List, [], ◌∷◌, ◌++◌, length, drop, Some, None, Ok, Err, vec_items, Option, slice_index}
+use Rattle.files.specs.Numbers.{numbers_in}
 use Rattle.plan.specs.Words.{leg_words}
 use Rattle.updates.specs.declared.update.Update.TheVariants.{Delay, Cancel, Extra}
 use Rattle.serving.specs.declared.request.Request.{Request}
@@ -10,20 +10,7 @@ use Rattle.office.specs.declared.kind.Kind.TheVariants.{Question, Delay as ADela
 use Rattle.office.specs.declared.reading.Fault.{Fault}
 use Rattle.office.specs.declared.reading.Fault.TheVariants.{Unknown, CutShort}
 use Rattle.office.specs.declared.reading.Requests.{Requests}
-
--- the kind that a byte says
-abbrev pub kind_of : ℕ → Option Kind
-kind_of b =
-    cond (b == 0) (Some Question) (cond (b == 1) (Some ADelay) (cond (b == 2) (Some ACancel)
-    (cond (b == 3) (Some AnExtra) (cond (b == 4) (Some Still) None))))
-
--- how many numbers a request has, by its kind; an itinerary says it by its count of legs, if that is there
-abbrev pub size_of : Kind → List ℕ → ℕ
-size_of Question bs = 4
-size_of ADelay bs = 3
-size_of ACancel bs = 2
-size_of AnExtra bs = 6
-size_of Still bs = cond (nat_lt (length bs) 12) 3 (3 + 2 * number_at bs 8)
+use Rattle.office.specs.Kinds.{kind_of, size_of}
 
 -- those of its numbers that are there: fewer, where the file's end cuts it short
 abbrev pub row : Kind → List ℕ → List ℕ
@@ -32,15 +19,15 @@ row kind bs = numbers_in (min (size_of kind bs) (length bs / 4)) bs
 -- the kind of a request, and its numbers
 abbrev pub request_kind : Request → Kind
 request_kind (Ask v) = Question
-request_kind (Apply (Delay r n m)) = ADelay
-request_kind (Apply (Cancel r n)) = ACancel
+request_kind (Apply (Delay n m)) = ADelay
+request_kind (Apply (Cancel n)) = ACancel
 request_kind (Apply (Extra l)) = AnExtra
 request_kind (Look v) = Still
 
 abbrev pub request_numbers : Request → List ℕ
 request_numbers (Ask v) = vec_items v
-request_numbers (Apply (Delay r n m)) = r ∷ n ∷ m ∷ []
-request_numbers (Apply (Cancel r n)) = r ∷ n ∷ []
+request_numbers (Apply (Delay n m)) = n.run ∷ n.number ∷ m ∷ []
+request_numbers (Apply (Cancel n)) = n.run ∷ n.number ∷ []
 request_numbers (Apply (Extra l)) = leg_words l
 request_numbers (Look v) = vec_items v
 
@@ -60,7 +47,7 @@ Cut Still ns = ⊥
 -- a request stands at this place of a file
 pub record Stands (bs : List ℕ) (at : ℕ) (kind : Kind) (r : Request) : Type 0 where
   pub within : at < length bs
-  pub byte : kind_of (slice_index bs at) ≡ Some kind
+  pub byte : kind_of (slice_index bs at) ≡ Ok kind
   pub made : Made kind (row kind (drop (at + 1) bs)) r
 
 -- where the next one stands: behind its numbers, or at the file's end
@@ -75,8 +62,8 @@ pub data Written (bs : List ℕ) (start : ℕ) : List Request → ℕ → Type 0
 
 -- no request can be read at this place: nothing has such a kind, or it is an update that is cut short
 abbrev pub Faulty : List ℕ → ℕ → Fault → Type 0
-Faulty bs at (Unknown place byte) = (place ≡ at) × (byte ≡ slice_index bs at) × (kind_of byte ≡ None)
-Faulty bs at (CutShort place) = (place ≡ at) × ((kind : Kind) × (kind_of (slice_index bs at) ≡ Some kind) ×
+Faulty bs at (Unknown place byte) = (place ≡ at) × (byte ≡ slice_index bs at) × (kind_of byte ≡ Err (record { byte = byte }))
+Faulty bs at (CutShort place) = (place ≡ at) × ((kind : Kind) × (kind_of (slice_index bs at) ≡ Ok kind) ×
     Cut kind (row kind (drop (at + 1) bs)))
 
 -- reading stops at the file's end, or at the first fault

@@ -1,24 +1,20 @@
 -- How the office tells what it says: lines, each with a line feed behind it.
-use Rattle.std.specs.Prelude.{ℕ, zero, suc, ◌+◌, ◌*◌, ◌/◌, min, List, [], ◌∷◌, ◌++◌, length, drop, vec_items, codes, decimal, slice_index}
+use Rattle.std.specs.Prelude.{ℕ, zero, suc, ◌+◌, ◌*◌, ◌/◌, min, List, [], ◌∷◌, ◌++◌, length, drop, Ok, Err, vec_items, Result, codes, slice_index}
 use Rattle.std.specs.List.{flat_map}
+use Rattle.plan.specs.Names.{name_text}
 use Rattle.plan.specs.Refusals.{refusal_text}
-use Rattle.journey.specs.declared.name.LegName.{LegName}
+use Rattle.plan.specs.declared.refusal.Refusal.{Refusal}
+use Rattle.plan.specs.declared.name.LegName.{LegName}
 use Rattle.marks.specs.declared.mark.Mark.{Mark}
 use Rattle.marks.specs.Fronts.{marks_of}
 use Rattle.marks.specs.Texts.{marks_text}
-use Rattle.updates.specs.Still.{names_in}
-use Rattle.updates.specs.declared.still.Word.{Word}
-use Rattle.updates.specs.declared.still.Word.TheVariants.{Still, Gone, Refused as Turned-away}
+use Rattle.updates.specs.Still.{names_in, word_text}
 use Rattle.serving.specs.declared.response.Response.{Response}
-use Rattle.serving.specs.declared.response.Response.TheVariants.{Marks, Updated, Looked, Refused}
+use Rattle.serving.specs.declared.response.Response.TheVariants.{Marks, Updated, Looked}
 
 -- a line feed, which ends a line
 abbrev pub feed : List ℕ
 feed = 10 ∷ []
-
--- `0.1`: the run and the number of a leg
-abbrev pub name_text : LegName → List ℕ
-name_text n = decimal n.run ++ (codes "." ++ decimal n.number)
 
 -- a name behind others
 abbrev pub next_text : LegName → List ℕ
@@ -43,14 +39,9 @@ itineraries_text (suc k) ns =
 abbrev pub answer_text : List Mark → List ℕ → List ℕ
 answer_text ms ns = marks_text ms ++ (feed ++ itineraries_text (length ms) ns)
 
-abbrev pub word_text : Word → List ℕ
-word_text Still = codes "still"
-word_text Gone = codes "gone"
-word_text (Turned-away e) = refusal_text e
-
--- a response: nothing for an update that is done
-abbrev pub response_text : Response → List ℕ
-response_text (Marks f v) = answer_text (marks_of f) (vec_items v)
-response_text Updated = []
-response_text (Looked w) = word_text w ++ feed
-response_text (Refused e) = refusal_text e ++ feed
+-- a response: nothing for an update that is done; or the refusal
+abbrev pub response_text : Result Response Refusal → List ℕ
+response_text (Ok (Marks f v)) = answer_text (marks_of f) (vec_items v)
+response_text (Ok Updated) = []
+response_text (Ok (Looked w)) = word_text w ++ feed
+response_text (Err e) = refusal_text e ++ feed

@@ -11,12 +11,13 @@ use std::alloc::{AllocError, Global};
 
 #[derive(Drop)]
 pub struct Day {
-    pub responses: Vec<Response>,
+    pub responses: Vec<Result<Response, Refusal>>,
     // Why the file was not read to its end, if it was not.
     pub fault: Option<Fault>,
 }
 
-// What the office says to the requests of a file, up to a fault; or why its plan cannot be used.
+// What the office says to the requests of a file, up to a fault; or why its plan cannot be used, which is what is told,
+// and not a failure.
 pub fn serve_file(heap: Global, bytes: &[u8]) -> Result<Result<Day, Refusal>, AllocError>
     ensures { IfOk result (ServedFile bytes.now) }
 {

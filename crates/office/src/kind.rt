@@ -1,6 +1,6 @@
 // The kinds of request in a file, by the byte that stands before each.
 ghost use Rattle.std.specs.Prelude.{◌≡◌, ◌≤◌};
-ghost use Rattle.office.specs.Requests.{kind_of, size_of};
+ghost use Rattle.office.specs.Kinds.{kind_of, size_of};
 
 use files::numbers::number_at;
 
@@ -13,21 +13,30 @@ pub enum Kind {
     Still,
 }
 
-impl Kind {
-    // The kind that a byte says, if there is such a kind.
-    pub fn of(byte: u8) -> Option<Kind>
-        ensures { result ≡ kind_of byte }
-    {
+// No request has this byte for its kind.
+#[derive(Clone, Copy)]
+pub struct UnknownKind {
+    pub byte: u8,
+}
+
+impl TryFrom<u8> for Kind {
+    type Error = UnknownKind;
+
+    ghost try_from_gives = { λ byte kind. kind ≡ kind_of byte };
+
+    fn try_from(byte: u8) -> Result<Kind, UnknownKind> {
         match byte {
-            0 => Some(Kind::Question),
-            1 => Some(Kind::Delay),
-            2 => Some(Kind::Cancel),
-            3 => Some(Kind::Extra),
-            4 => Some(Kind::Still),
-            _ => None,
+            0 => Ok(Kind::Question),
+            1 => Ok(Kind::Delay),
+            2 => Ok(Kind::Cancel),
+            3 => Ok(Kind::Extra),
+            4 => Ok(Kind::Still),
+            _ => Err(UnknownKind { byte }),
         }
     }
+}
 
+impl Kind {
     // How many numbers a request of this kind has, which these bytes begin with.
     pub fn size(self, bytes: &[u8]) -> usize
         ensures value { result ≡ size_of self bytes.now }

@@ -9,6 +9,7 @@ mod telling;
 use anyhow::anyhow;
 use day::serve_file;
 use files::command::{Command, read_command};
+use plan::refusal::Refusal;
 use reading::Fault;
 use serving::response::Response;
 use telling::text_of;
@@ -28,7 +29,7 @@ refusals.
 // So many responses are written at once.
 const CHUNK: usize = 1024;
 
-fn print_all(rt: &HostRuntime, responses: &[Response]) -> anyhow::Result<()> {
+fn print_all(rt: &HostRuntime, responses: &[Result<Response, Refusal>]) -> anyhow::Result<()> {
     for chunk in responses.chunks(CHUNK) {
         rt.print(text_of(rt.alloc(), chunk)?)?;
     }

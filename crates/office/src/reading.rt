@@ -6,6 +6,7 @@ ghost use Rattle.office.specs.Requests.{Made, Cut, Read};
 use crate::kind::Kind;
 use files::numbers::numbers;
 use plan::leg::Leg;
+use plan::name::LegName;
 use serving::request::Request;
 use std::alloc::{AllocError, Global};
 use std::fmt;
@@ -48,28 +49,24 @@ fn request_of(kind: Kind, numbers: Vec<u64>) -> Option<Request>
     match kind {
         Kind::Question => Some(Request::Ask(numbers)),
         Kind::Delay => match numbers.as_slice() {
-            [run, number, minutes] => Some(Request::Apply(Update::Delay {
-                run: *run,
-                number: *number,
-                minutes: *minutes,
+            &[run, number, minutes] => Some(Request::Apply(Update::Delay {
+                from: LegName { run, number },
+                minutes,
             })),
             _ => None,
         },
         Kind::Cancel => match numbers.as_slice() {
-            [run, number] => Some(Request::Apply(Update::Cancel {
-                run: *run,
-                number: *number,
-            })),
+            &[run, number] => Some(Request::Apply(Update::Cancel(LegName { run, number }))),
             _ => None,
         },
         Kind::Extra => match numbers.as_slice() {
-            [run, number, from, to, leaves, comes] => Some(Request::Apply(Update::Extra(Leg {
-                run: *run,
-                number: *number,
-                from: *from,
-                to: *to,
-                leaves: *leaves,
-                comes: *comes,
+            &[run, number, from, to, leaves, comes] => Some(Request::Apply(Update::Extra(Leg {
+                run,
+                number,
+                from,
+                to,
+                leaves,
+                comes,
             }))),
             _ => None,
         },
@@ -84,10 +81,11 @@ pub fn read_requests(heap: Global, bytes: &[u8], start: usize) -> Result<Request
 {
     let mut all = Vec::new(heap);
     let mut at = start;
+    // By place, since a fault is told by the byte at which it stands.
     while at < bytes.len() {
         let place = at;
         let byte = bytes[at];
-        let Some(kind) = Kind::of(byte) else {
+        let Ok(kind) = Kind::try_from(byte) else {
             return Ok(Requests {
                 all,
                 fault: Some(Fault::Unknown { place, byte }),

@@ -1,27 +1,14 @@
 -- The steps of a loop that looks for the first of something.
-use Rattle.std.proofs.Common.{◌≡◌, ℕ, zero, suc, ◌+◌, ◌<◌, Bool, true, false, cond, ◌&&◌, is_ok, Ok, Err, Result, sym, refl, ap, ◌∙◌, inl, inr, add-one, arith}
+use Rattle.std.proofs.Common.{◌≡◌, ℕ, zero, suc, ◌+◌, ◌<◌, Bool, true, false, cond, ◌&&◌, [], ◌∷◌, map, is_ok, Ok, Err, Result, sym, refl, ap, ◌∙◌, inl, inr, add-one, arith}
 use Rattle.std.proofs.lemmas.Bool.{cases_eq, and_parts, and_from}
-use Rattle.std.proofs.lemmas.Bool.Decides.{nat_tests}
+use Rattle.std.proofs.Math.Bool.{and-true}
+use Rattle.std.specs.List.{list_all, range_with_len}
+use Rattle.std.proofs.lemmas.List.Folds.{list_all-append, list_all-map}
+use Rattle.std.proofs.lemmas.List.FromFn.{map-range_with_len_more}
 use Rattle.plan.specs.declared.refusal.Refusal.{Refusal}
 use Rattle.plan.specs.Check.{all_below, first_not, then}
 
 -- ---- a test of every number below n
-pub all_below_none : (f : ℕ → Bool) → all_below f 0 ≡ true
-unfolding all_below
-all_below_none f = refl
-
-pub all_below_more : (f : ℕ → Bool) (n : ℕ) → all_below f n ≡ true → f n ≡ true → all_below f (n + 1) ≡ true
-unfolding all_below
-all_below_more f n p q = rw add-one (and_from (all_below f n) (f n) p q)
-
-pub all_below_hit : (f : ℕ → Bool) (j n : ℕ) → j < n → f j ≡ false → all_below f n ≡ false
-unfolding all_below
-all_below_hit f j zero h p = absurd (omega arith)
-all_below_hit f j (suc n) h p = elim (cases_eq j n) [
-  | inl e ↦ let q : f n ≡ false = ap f (sym e) ∙ p in grind (arith, nat_tests)
-  | inr d ↦ let k : j < n = omega arith in let q = all_below_hit f j n k p in grind (arith, nat_tests)
-]
-
 pub all_below_all : (f : ℕ → Bool) (n : ℕ) → all_below f n ≡ true → (k : ℕ) → k < n → f k ≡ true
 unfolding all_below
 all_below_all f zero o k h = absurd (omega arith)
@@ -36,6 +23,20 @@ pub all_below_from : (f : ℕ → Bool) (n : ℕ) → ((k : ℕ) → k < n → f
 unfolding all_below
 all_below_from f zero h = refl
 all_below_from f (suc n) h = and_from (all_below f n) (f n) (all_below_from f n (λ k l. h k (omega arith))) (h n (omega arith))
+
+-- as `all` finds it over a range
+all_below_map : (f : ℕ → Bool) (n : ℕ) → list_all (λ b. b) (map f (range_with_len 0 n)) ≡ all_below f n
+unfolding all_below
+all_below_map f zero = refl
+all_below_map f (suc n) =
+    let e : suc n ≡ n + 1 = omega arith in
+    ap (λ k. list_all (λ b. b) (map f (range_with_len 0 k))) e
+    ∙ ap (list_all (λ b. b)) (map-range_with_len_more f 0 n n (omega arith))
+    ∙ list_all-append (λ b. b) (map f (range_with_len 0 n)) (f n ∷ [])
+    ∙ (λ i. all_below_map f n i && and-true (f n) i)
+
+pub all_below_range : (f : ℕ → Bool) (n : ℕ) → list_all f (range_with_len 0 n) ≡ all_below f n
+all_below_range f n = sym (list_all-map (λ b. b) f (range_with_len 0 n)) ∙ all_below_map f n
 
 -- ---- the first number below n that fails
 pub first_not_none : (f : ℕ → Bool) (e : ℕ → Refusal) → first_not f e 0 ≡ Ok tt

@@ -203,3 +203,6 @@ module _ (xs : List ℕ) (h : sound_words xs ≡ true) where
 
   pub sound_change : (s : ℕ) → s < piers (plan_in xs) → change_at (plan_in xs) s < time_bound
   sound_change s l = sound_plan.changes s l
+
+-- the same, as the timetable is proved from it
+pub ruleset sound_parts = (sound_leg, sound_walk, sound_change, sound_fit)

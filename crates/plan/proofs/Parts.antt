@@ -100,3 +100,6 @@ change_part xs s w h =
     let t = get_or-take (get_or xs 0 0) (drop 3 xs) s 0 k in
     let d = get_or-drop 3 xs s 0 in
     cc
+
+-- what the reading of a plan's parts is proved from
+pub ruleset parts = (count_piers, count_legs, count_walks, leg_part, walk_part, change_part)

@@ -1,5 +1,6 @@
 -- The check of a plan: which refusal comes first.
-use Rattle.std.specs.Prelude.{ℕ, zero, suc, Bool, true, cond, not, ◌&&◌, List, length, is_ok, Ok, Err, Result, nat_le, nat_lt, slice_index}
+use Rattle.std.specs.Prelude.{◌≡◌, ◌<◌, ℕ, zero, suc, Bool, true, cond, not, ◌&&◌, List, length, is_ok, Ok, Err, Result, nat_le, nat_lt, slice_index}
+use Rattle.plan.specs.declared.refusal.Part.TheVariants.{Piers, Legs, Walks}
 use Rattle.plan.specs.declared.refusal.Refusal.{Refusal}
 use Rattle.plan.specs.declared.refusal.Refusal.TheVariants.{Count, Short, BadLeg, BadWalk, BadChange}
 use Rattle.plan.specs.declared.counts.Counts.{Counts}
@@ -20,9 +21,9 @@ most_walks = 256
 abbrev pub counts_checked : List ℕ → Result Counts Refusal
 counts_checked xs =
     cond (nat_lt (length xs) 3) (Err Short)
-    (cond (nat_lt most_piers (slice_index xs 0)) (Err (Count 0))
-    (cond (nat_lt most_legs (slice_index xs 1)) (Err (Count 1))
-    (cond (nat_lt most_walks (slice_index xs 2)) (Err (Count 2))
+    (cond (nat_lt most_piers (slice_index xs 0)) (Err (Count Piers))
+    (cond (nat_lt most_legs (slice_index xs 1)) (Err (Count Legs))
+    (cond (nat_lt most_walks (slice_index xs 2)) (Err (Count Walks))
     (cond (nat_lt (length xs) (plan_end xs)) (Err Short)
     (Ok (record { piers = slice_index xs 0; legs = slice_index xs 1; walks = slice_index xs 2 }))))))
 
@@ -40,6 +41,10 @@ all_below f (suc n) = all_below f n && f n
 unfoldable pub first_not : (ℕ → Bool) → (ℕ → Refusal) → ℕ → Result Unit Refusal
 first_not f e zero = Ok tt
 first_not f e (suc n) = then (first_not f e n) (λ _. cond (f n) (Ok tt) (Err (e n)))
+
+-- what is asked answers as f does, of every number below n
+abbrev pub AnswersAs : {A : Type 0} → (ℕ → A → Type 0) → (ℕ → A) → ℕ → Type 0
+AnswersAs answers f n = (k : ℕ) (a : _) → k < n → answers k a → a ≡ f k
 
 -- no earlier leg has the run and number of the leg i
 abbrev pub is_new : Plan → ℕ → Bool

@@ -1,6 +1,7 @@
 -- Legs, walks and plans: what the words mean.
 use Rattle.std.specs.Prelude.{ℕ, Bool, ◌&&◌, List, length, ◌==◌, nat_le, nat_lt, slice_index, slice_index_or}
 use Rattle.plan.specs.declared.leg.Leg.{Leg}
+use Rattle.plan.specs.declared.name.LegName.{LegName}
 use Rattle.plan.specs.declared.walk.Walk.{Walk}
 
 -- a plan: its legs, its walks, and for each pier the minutes that a change of boats takes there
@@ -22,6 +23,9 @@ abbrev pub runs : Leg → Bool
 runs a = nat_le a.leaves a.comes
 
 -- run and number name a leg
+abbrev pub name : Leg → LegName
+name a = record { run = a.run; number = a.number }
+
 abbrev pub same_name : Leg → Leg → Bool
 same_name a b = a.run == b.run && a.number == b.number
 

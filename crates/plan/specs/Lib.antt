@@ -1,5 +1,6 @@
 pub mod Legs
 pub mod Words
+pub mod Names
 pub mod Refusals
 pub mod Check
 pub mod Sound

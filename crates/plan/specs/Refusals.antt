@@ -1,5 +1,6 @@
 -- The number and the place of each refusal, and how it is told.
 use Rattle.std.specs.Prelude.{ℕ, ◌+◌, List, ◌++◌, codes, decimal}
+use Rattle.plan.specs.declared.refusal.Part.TheVariants.{Piers, Legs, Walks}
 use Rattle.plan.specs.declared.refusal.Refusal.{Refusal}
 use Rattle.plan.specs.declared.refusal.Refusal.TheVariants.{Short, Count, BadLeg, BadWalk, BadChange, BadQuestion, ShortRow, NoMark, TooLate, Taken, Full, NoLeg, BadItinerary}
 
@@ -21,7 +22,9 @@ number_of (BadItinerary n) = 9
 -- walks are told from 1,024 on and piers from 1,280, past every leg
 abbrev pub place_of : Refusal → ℕ
 place_of Short = 3
-place_of (Count k) = k
+place_of (Count Piers) = 0
+place_of (Count Legs) = 1
+place_of (Count Walks) = 2
 place_of (BadLeg i) = i
 place_of (BadWalk j) = 1024 + j
 place_of (BadChange s) = 1280 + s

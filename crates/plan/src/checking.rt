@@ -1,31 +1,17 @@
 // The check of a plan: it may be used, or the first thing that is wrong with it.
-ghost use Rattle.std.specs.Prelude.{◌≡◌, ◌<◌, ◌≤◌, true, false, length, take, is_ok, if◌then◌else◌, Some, None, nat_le};
-ghost use Rattle.plan.specs.Legs.{leg, walk, change_at, piers};
-ghost use Rattle.plan.specs.Words.{Whole, plan_in};
-ghost use Rattle.plan.specs.Check.{counts_checked, is_new, leg_ok, walk_ok, change_ok, legs_checked, walks_checked, changes_checked, parts_checked, plan_checked, sound_words, most_legs};
-ghost use Rattle.plan.specs.Sound.{Few, Usable};
+ghost use Rattle.std.specs.Prelude.{◌≡◌, ℕ, ◌<◌, ◌≤◌, true, false, length, take, is_ok, Bool};
+ghost use Rattle.plan.specs.Legs.{piers};
+ghost use Rattle.plan.specs.Words.{plan_in};
+ghost use Rattle.plan.specs.declared.refusal.Refusal.{Refusal};
+ghost use Rattle.plan.specs.Check.{AnswersAs, first_not, counts_checked, is_new, leg_ok, walk_ok, change_ok, legs_checked, walks_checked, changes_checked, parts_checked, plan_checked, sound_words, most_legs};
+ghost use Rattle.plan.specs.Sound.{Usable};
 ghost use Rattle.plan.specs.Keys.{all_fit, Ordered, KeysLeft};
 
+use super::bounds::{MOST_LEGS, MOST_PIERS, MOST_WALKS, TIME_BOUND, below};
+use super::counted::Counted;
 use super::counts::Counts;
-use super::leg::Leg;
-use super::order::{all_legs_fit, names_differ, put_in_order};
-use super::refusal::Refusal;
-use super::walk::Walk;
-use super::words::{change_of, count_legs, count_piers, count_walks, leg_at, walk_at};
-
-const MOST_PIERS: u64 = 64;
-
-const MOST_LEGS: u64 = 1024;
-
-const MOST_WALKS: u64 = 256;
-
-const TIME_BOUND: u64 = 4294967296;
-
-fn at_most(n: u64, most: u64) -> Option<u64>
-    ensures { result ≡ (if nat_le n most then Some n else None) }
-{
-    if n <= most { Some(n) } else { None }
-}
+use super::order::names_differ;
+use super::refusal::{Part, Refusal};
 
 // The counts, if they are within their bounds and the words hold as much as they say.
 fn read_counts(words: &[u64]) -> Result<Counts, Refusal>
@@ -34,18 +20,18 @@ fn read_counts(words: &[u64]) -> Result<Counts, Refusal>
     let [piers, legs, walks, ..] = words else {
         return Err(Refusal::Short);
     };
-    let Some(piers) = at_most(*piers, MOST_PIERS) else {
-        return Err(Refusal::Count(0));
+    let Some(piers) = below(*piers, MOST_PIERS as u64 + 1) else {
+        return Err(Refusal::Count(Part::Piers));
     };
-    let Some(legs) = at_most(*legs, MOST_LEGS) else {
-        return Err(Refusal::Count(1));
+    let Some(legs) = below(*legs, MOST_LEGS as u64 + 1) else {
+        return Err(Refusal::Count(Part::Legs));
     };
-    let Some(walks) = at_most(*walks, MOST_WALKS) else {
-        return Err(Refusal::Count(2));
+    let Some(walks) = below(*walks, MOST_WALKS as u64 + 1) else {
+        return Err(Refusal::Count(Part::Walks));
     };
-    let Some(_) = at_most(3 + piers + 6 * legs + 3 * walks, words.len() as u64) else {
+    if words.len() as u64 - 3 < piers + 6 * legs + 3 * walks {
         return Err(Refusal::Short);
-    };
+    }
     Ok(Counts {
         piers: piers as usize,
         legs: legs as usize,
@@ -53,136 +39,124 @@ fn read_counts(words: &[u64]) -> Result<Counts, Refusal>
     })
 }
 
-// No earlier leg has the run and number of the leg `i`.
-fn has_new_name(words: &[u64], i: usize) -> bool
-    requires whole { Whole words.now }
-    requires within { i < length (plan_in words.now).legs }
-    ensures { result ≡ is_new (plan_in words.now) i }
+// Passes if the test passes of every number below `n`; else the refusal of the first of which it does not.
+pub fn check_each<F: Fn(usize) -> bool, R: Fn(u16) -> Refusal>(
+    n: usize,
+    is_sound: F,
+    refusal: R,
+) -> Result<(), Refusal>
+    requires few { n ≤ most_legs }
+    requires test { (k : ℕ) → k < n → F.pre is_sound k }
+    requires refusal { (k : ℕ) → k < n → R.pre refusal k }
+    ensures { (f : ℕ → Bool) (e : ℕ → Refusal) → AnswersAs (F.post is_sound) f n → AnswersAs (R.post refusal) e n → result ≡ first_not f e n }
 {
-    let leg = leg_at(words, i);
-    for j in 0..i {
-        if leg.is_named_as(leg_at(words, j)) {
-            return false;
+    // A `for`, since `find` asks that its closure may be called at any number, and the test only may below `n`.
+    for i in 0..n {
+        if !is_sound(i) {
+            return Err(refusal(i as u16));
         }
     }
-    true
-}
-
-// The leg `i`, if it may stand in the plan.
-fn sound_leg(words: &[u64], i: usize) -> Option<Leg>
-    requires whole { Whole words.now }
-    requires within { i < length (plan_in words.now).legs }
-    ensures { result ≡ (if leg_ok (plan_in words.now) i then Some (leg (plan_in words.now) i) else None) }
-{
-    let leg = leg_at(words, i);
-    if leg.is_within(count_piers(words) as u64) && has_new_name(words, i) {
-        Some(leg)
-    } else {
-        None
-    }
-}
-
-// The walk `j`, if it may stand in the plan.
-fn sound_walk(words: &[u64], j: usize) -> Option<Walk>
-    requires whole { Whole words.now }
-    requires within { j < length (plan_in words.now).walks }
-    ensures { result ≡ (if walk_ok (plan_in words.now) j then Some (walk (plan_in words.now) j) else None) }
-{
-    let walk = walk_at(words, j);
-    if walk.is_within(count_piers(words) as u64) {
-        Some(walk)
-    } else {
-        None
-    }
-}
-
-// What a change takes at a pier, if it is within its bound.
-fn sound_change(words: &[u64], pier: usize) -> Option<u64>
-    requires whole { Whole words.now }
-    requires within { pier < piers (plan_in words.now) }
-    ensures { result ≡ (if change_ok (plan_in words.now) pier then Some (change_at (plan_in words.now) pier) else None) }
-{
-    let change = change_of(words, pier);
-    if change < TIME_BOUND {
-        Some(change)
-    } else {
-        None
-    }
-}
-
-// The first leg that may not stand in the plan. It compares each leg with all before it, so it is called only where
-// something is known to be wrong.
-fn find_bad_leg(words: &[u64]) -> Result<(), Refusal>
-    requires whole { Whole words.now }
-    requires few { Few (plan_in words.now) }
-    ensures { result ≡ legs_checked (plan_in words.now) }
-{
-    for i in 0..count_legs(words) {
-        let Some(_) = sound_leg(words, i) else {
-            return Err(Refusal::BadLeg(i as u16));
-        };
-    }
     Ok(())
 }
 
-fn check_walks(words: &[u64]) -> Result<(), Refusal>
-    requires whole { Whole words.now }
-    requires few { Few (plan_in words.now) }
-    ensures { result ≡ walks_checked (plan_in words.now) }
-{
-    for j in 0..count_walks(words) {
-        let Some(_) = sound_walk(words, j) else {
-            return Err(Refusal::BadWalk(j as u16));
-        };
+impl Counted<'_> {
+    // No earlier leg has the run and number of the leg `i`.
+    fn has_new_name(self, i: usize) -> bool
+        requires { i < length (plan_in self.words.now).legs }
+        ensures { result ≡ is_new (plan_in self.entry.words.now) i }
+    {
+        let draft = self.draft();
+        let leg = draft.leg(i);
+        (0..i).all(|j| !leg.is_named_as(draft.leg(j)))
     }
-    Ok(())
-}
 
-fn check_changes(words: &[u64]) -> Result<(), Refusal>
-    requires whole { Whole words.now }
-    requires few { Few (plan_in words.now) }
-    ensures { result ≡ changes_checked (plan_in words.now) }
-{
-    for pier in 0..count_piers(words) {
-        let Some(_) = sound_change(words, pier) else {
-            return Err(Refusal::BadChange(pier as u16));
-        };
+    // The leg `i` may stand in the plan.
+    fn has_sound_leg(self, i: usize) -> bool
+        requires { i < length (plan_in self.words.now).legs }
+        ensures { result ≡ leg_ok (plan_in self.entry.words.now) i }
+    {
+        let draft = self.draft();
+        draft.leg(i).is_within(draft.piers() as u64) && self.has_new_name(i)
     }
-    Ok(())
-}
 
-// The legs: in time that grows little faster than their count where all is well, since the names are sorted and not
-// compared with each other. The keys of the legs are left in the lent row, in order.
-fn check_legs(words: &[u64], keys: &mut [u64]) -> Result<(), Refusal>
-    requires whole { Whole words.now }
-    requires few { Few (plan_in words.now) }
-    requires size { length keys.old ≡ length (plan_in words.now).legs }
-    ensures value { result ≡ legs_checked (plan_in words.now) }
-    ensures ordered { all_fit (plan_in words.now) ≡ true → Ordered (plan_in words.now) keys.new }
-    ensures kept { all_fit (plan_in words.now) ≡ false → keys.new ≡ keys.old }
-{
-    if !all_legs_fit(words) {
-        return find_bad_leg(words);
+    // The walk `j` may stand in the plan.
+    fn has_sound_walk(self, j: usize) -> bool
+        requires { j < length (plan_in self.words.now).walks }
+        ensures { result ≡ walk_ok (plan_in self.entry.words.now) j }
+    {
+        let draft = self.draft();
+        draft.walk(j).is_within(draft.piers() as u64)
     }
-    put_in_order(words, keys);
-    if names_differ(keys) {
-        return Ok(());
-    }
-    find_bad_leg(words)
-}
 
-// All that stands behind the counts.
-fn check_parts(words: &[u64], keys: &mut [u64]) -> Result<(), Refusal>
-    requires whole { Whole words.now }
-    requires few { Few (plan_in words.now) }
-    requires size { length keys.old ≡ length (plan_in words.now).legs }
-    ensures value { result ≡ parts_checked (plan_in words.now) }
-    ensures ordered { all_fit (plan_in words.now) ≡ true → Ordered (plan_in words.now) keys.new }
-    ensures kept { all_fit (plan_in words.now) ≡ false → keys.new ≡ keys.old }
-{
-    check_legs(words, keys)?;
-    check_walks(words)?;
-    check_changes(words)
+    // What a change takes at a pier is within its bound.
+    fn has_sound_change(self, pier: usize) -> bool
+        requires { pier < piers (plan_in self.words.now) }
+        ensures { result ≡ change_ok (plan_in self.entry.words.now) pier }
+    {
+        self.draft().change(pier) < TIME_BOUND
+    }
+
+    // The first leg that may not stand in the plan. It compares each leg with all before it, so it is called only where
+    // something is known to be wrong.
+    fn find_bad_leg(self) -> Result<(), Refusal>
+        ensures { result ≡ legs_checked (plan_in self.entry.words.now) }
+    {
+        check_each(
+            self.draft().legs(),
+            |i| self.has_sound_leg(i),
+            Refusal::BadLeg,
+        )
+    }
+
+    fn check_walks(self) -> Result<(), Refusal>
+        ensures { result ≡ walks_checked (plan_in self.entry.words.now) }
+    {
+        check_each(
+            self.draft().walks(),
+            |j| self.has_sound_walk(j),
+            Refusal::BadWalk,
+        )
+    }
+
+    fn check_changes(self) -> Result<(), Refusal>
+        ensures { result ≡ changes_checked (plan_in self.entry.words.now) }
+    {
+        check_each(
+            self.draft().piers(),
+            |pier| self.has_sound_change(pier),
+            Refusal::BadChange,
+        )
+    }
+
+    // The legs: in time that grows little faster than their count where all is well, since the names are sorted and not
+    // compared with each other. The keys of the legs are left in the lent row, in order.
+    fn check_legs(self, keys: &mut [u64]) -> Result<(), Refusal>
+        requires { length keys.old ≡ length (plan_in self.words.now).legs }
+        ensures value { result ≡ legs_checked (plan_in self.entry.words.now) }
+        ensures ordered { all_fit (plan_in self.entry.words.now) ≡ true → Ordered (plan_in self.entry.words.now) keys.new }
+        ensures kept { all_fit (plan_in self.entry.words.now) ≡ false → keys.new ≡ keys.old }
+    {
+        if !self.all_legs_fit() {
+            return self.find_bad_leg();
+        }
+        self.put_in_order(keys);
+        if names_differ(keys) {
+            return Ok(());
+        }
+        self.find_bad_leg()
+    }
+
+    // All that stands behind the counts.
+    fn check_parts(self, keys: &mut [u64]) -> Result<(), Refusal>
+        requires { length keys.old ≡ length (plan_in self.words.now).legs }
+        ensures value { result ≡ parts_checked (plan_in self.entry.words.now) }
+        ensures ordered { all_fit (plan_in self.entry.words.now) ≡ true → Ordered (plan_in self.entry.words.now) keys.new }
+        ensures kept { all_fit (plan_in self.entry.words.now) ≡ false → keys.new ≡ keys.old }
+    {
+        self.check_legs(keys)?;
+        self.check_walks()?;
+        self.check_changes()
+    }
 }
 
 fn check_all(words: &[u64], keys: &mut [u64]) -> Result<Counts, Refusal>
@@ -191,8 +165,7 @@ fn check_all(words: &[u64], keys: &mut [u64]) -> Result<Counts, Refusal>
     ensures keys { KeysLeft words.now keys.old keys.new }
 {
     let counts = read_counts(words)?;
-    let legs = counts.legs;
-    check_parts(words, &mut keys[0..legs])?;
+    Counted::of(words).check_parts(&mut keys[..counts.legs])?;
     Ok(counts)
 }
 
@@ -217,6 +190,6 @@ pub fn check(words: &[u64]) -> Result<Counts, Refusal>
     ensures just { Usable words.now → is_ok result ≡ true }
     ensures opens { is_ok result ≡ true → sound_words words.now ≡ true }
 {
-    let mut keys = [0u64; 1024];
+    let mut keys = [0; MOST_LEGS];
     check_in_order(words, &mut keys)
 }

@@ -1,6 +1,6 @@
 // How much a plan holds.
 
-#[derive(Clone, Copy)]
+#[derive(Clone, Copy, PartialEq, Eq)]
 pub struct Counts {
     pub piers: usize,
     pub legs: usize,

@@ -1,9 +1,12 @@
 // A leg: one hop of a boat's run, by value.
 ghost use Rattle.std.specs.Prelude.{◌≡◌, ◌≤◌, length};
-ghost use Rattle.plan.specs.Legs.{runs, same_name, leg_within};
+ghost use Rattle.plan.specs.Legs.{name, runs, same_name, leg_within};
 ghost use Rattle.plan.specs.Words.{leg_of, leg_words};
 
-#[derive(Clone, Copy)]
+use super::bounds::{NAME_BOUND, TIME_BOUND};
+use super::name::LegName;
+
+#[derive(Clone, Copy, PartialEq, Eq)]
 pub struct Leg {
     // The run that the leg belongs to, and its number in it.
     pub run: u64,
@@ -17,7 +20,7 @@ pub struct Leg {
 }
 
 impl Leg {
-    // The leg that six numbers of a plan write down.
+    // The leg that six numbers of a plan write down, read where they lie in the lent memory.
     pub fn read(part: &[u64]) -> Leg
         requires { 6 ≤ length part.now }
         ensures { result ≡ leg_of part.now }
@@ -54,22 +57,32 @@ impl Leg {
         self.leaves <= self.comes
     }
 
-    // The same run and number: what names a leg.
+    // What names the leg.
+    pub fn name(self) -> LegName
+        ensures { result ≡ name self }
+    {
+        LegName {
+            run: self.run,
+            number: self.number,
+        }
+    }
+
+    // The same run and number.
     pub fn is_named_as(self, other: Leg) -> bool
         ensures { result ≡ same_name self other }
     {
-        self.run == other.run && self.number == other.number
+        self.name() == other.name()
     }
 
     // Every number of the leg is within its bounds, in a plan of so many piers.
     pub fn is_within(self, piers: u64) -> bool
         ensures { result ≡ leg_within piers self }
     {
-        self.run < 65536
-            && self.number < 65536
+        self.run < NAME_BOUND
+            && self.number < NAME_BOUND
             && self.from < piers
             && self.to < piers
-            && self.leaves < 4294967296
-            && self.comes < 4294967296
+            && self.leaves < TIME_BOUND
+            && self.comes < TIME_BOUND
     }
 }

@@ -1,9 +1,12 @@
 // The plan in lent memory: legs, walks and changes, the check of it, and the checked plan.
 #![tactic(auto)]
 
+pub mod bounds;
 pub mod checking;
+mod counted;
 pub mod counts;
 pub mod leg;
+pub mod name;
 pub mod order;
 pub mod refusal;
 pub mod timetable;

@@ -4,12 +4,20 @@ ghost use Rattle.plan.specs.Refusals.{number_of, place_of, refusal_text};
 
 use std::fmt;
 
-#[derive(Clone, Copy)]
+// What a plan counts.
+#[derive(Clone, Copy, PartialEq, Eq)]
+pub enum Part {
+    Piers,
+    Legs,
+    Walks,
+}
+
+#[derive(Clone, Copy, PartialEq, Eq)]
 pub enum Refusal {
     // 1: the plan is shorter than its counts say, or has no counts.
     Short,
     // 1: the count of piers, of legs or of walks is above its bound.
-    Count(u16),
+    Count(Part),
     // 2: a leg has a number out of its bounds, or the run and number of an earlier leg.
     BadLeg(u16),
     // 2: a walk has a number out of its bounds.
@@ -58,7 +66,9 @@ impl Refusal {
     {
         match self {
             Refusal::Short => 3,
-            Refusal::Count(which) => u64::from(which),
+            Refusal::Count(Part::Piers) => 0,
+            Refusal::Count(Part::Legs) => 1,
+            Refusal::Count(Part::Walks) => 2,
             Refusal::BadLeg(leg) | Refusal::TooLate(leg) => u64::from(leg),
             Refusal::BadWalk(walk) => 1024 + u64::from(walk),
             Refusal::BadChange(pier) => 1280 + u64::from(pier),

@@ -3,7 +3,9 @@ ghost use Rattle.std.specs.Prelude.{◌≡◌, ◌≤◌, length};
 ghost use Rattle.plan.specs.Legs.{walk_within};
 ghost use Rattle.plan.specs.Words.{walk_of};
 
-#[derive(Clone, Copy)]
+use super::bounds::TIME_BOUND;
+
+#[derive(Clone, Copy, PartialEq, Eq)]
 pub struct Walk {
     pub from: u64,
     pub to: u64,
@@ -12,7 +14,7 @@ pub struct Walk {
 }
 
 impl Walk {
-    // The walk that three numbers of a plan write down.
+    // The walk that three numbers of a plan write down, read where they lie in the lent memory.
     pub fn read(part: &[u64]) -> Walk
         requires { 3 ≤ length part.now }
         ensures { result ≡ walk_of part.now }
@@ -28,6 +30,6 @@ impl Walk {
     pub fn is_within(self, piers: u64) -> bool
         ensures { result ≡ walk_within piers self }
     {
-        self.from < piers && self.to < piers && self.takes < 4294967296
+        self.from < piers && self.to < piers && self.takes < TIME_BOUND
     }
 }

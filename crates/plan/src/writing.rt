@@ -6,7 +6,7 @@ ghost use Rattle.plan.specs.Legs.{with_legs};
 ghost use Rattle.plan.specs.Words.{Whole, plan_in, plan_end, written};
 
 use super::leg::Leg;
-use super::words::{count_legs, leg_start, plan_end, set_leg_count, walks_start};
+use super::words::{Draft, set_leg_count};
 
 // The leg stands where the leg `i` stood.
 pub fn put_leg(words: &mut [u64], i: usize, leg: Leg)
@@ -15,7 +15,7 @@ pub fn put_leg(words: &mut [u64], i: usize, leg: Leg)
     ensures { words.new ≡ written (with_legs (plan_in words.old)
         (slice_set (plan_in words.old).legs i leg)) words.old }
 {
-    let start = leg_start(words, i);
+    let start = Draft::of(words).leg_start(i);
     leg.write(&mut words[start..start + 6]);
 }
 
@@ -26,9 +26,10 @@ pub fn remove_leg(words: &mut [u64], i: usize)
     ensures { words.new ≡ written (with_legs (plan_in words.old)
         (remove (plan_in words.old).legs i)) words.old }
 {
-    let at = leg_start(words, i);
-    let end = plan_end(words);
-    let legs = count_legs(words);
+    let draft = Draft::of(words);
+    let at = draft.leg_start(i);
+    let end = draft.end();
+    let legs = draft.legs();
     words.copy_within(at + 6..end, at);
     set_leg_count(words, legs - 1);
 }
@@ -38,7 +39,7 @@ pub fn has_room(words: &[u64]) -> bool
     requires { Whole words.now }
     ensures { result ≡ nat_le (plan_end words.now + 6) (length words.now) }
 {
-    words.len() - plan_end(words) >= 6
+    words.len() - Draft::of(words).end() >= 6
 }
 
 // The leg stands behind the other legs: what stands behind them moves down.
@@ -48,9 +49,10 @@ pub fn add_leg(words: &mut [u64], leg: Leg)
     ensures { words.new ≡ written (with_legs (plan_in words.old)
         ((plan_in words.old).legs ++ leg ∷ [])) words.old }
 {
-    let at = walks_start(words);
-    let end = plan_end(words);
-    let legs = count_legs(words);
+    let draft = Draft::of(words);
+    let at = draft.walks_start();
+    let end = draft.end();
+    let legs = draft.legs();
     words.copy_within(at..end, at + 6);
     leg.write(&mut words[at..at + 6]);
     set_leg_count(words, legs + 1);
@@ -62,6 +64,6 @@ pub fn copy_plan(source: &[u64], words: &mut [u64])
     requires room { plan_end source.now ≤ length words.old }
     ensures { words.new ≡ written (plan_in source.now) words.old }
 {
-    let end = plan_end(source);
-    words[0..end].copy_from_slice(&source[0..end]);
+    let end = Draft::of(source).end();
+    words[..end].copy_from_slice(&source[..end]);
 }

@@ -4,10 +4,9 @@ use borrow.Rule.Slice.PartMut.{put_mid}
 use Rattle.std.proofs.lemmas.Bool.{cases_lt}
 use Rattle.std.proofs.lemmas.Slice.{between_is, take-put_mid_below, drop-put_mid, between-put_mid}
 use Rattle.plan.specs.Legs.{Plan, piers}
-use Rattle.rounds.specs.declared.reply.Reply.{Reply}
 use Rattle.rounds.specs.Layout.{Alike}
 use Rattle.rounds.specs.Query.{query_checked}
-use Rattle.rounds.specs.Entry.{AnsweredBy}
+use Rattle.rounds.specs.Entry.{Reply, AnsweredBy}
 use Rattle.rounds.proofs.Alike.{answered_alike}
 use Rattle.race.specs.Each.{question_at, row_at, EachAnswered}
 

@@ -5,9 +5,8 @@ use Rattle.plan.specs.declared.counts.Counts.{Counts}
 use Rattle.plan.specs.declared.refusal.Refusal.{Refusal}
 use Rattle.plan.specs.Legs.{Plan, piers}
 use Rattle.plan.specs.Refusals.{number_of}
-use Rattle.rounds.specs.declared.reply.Reply.{Reply}
 use Rattle.rounds.specs.Query.{query_checked}
-use Rattle.rounds.specs.Entry.{AnsweredBy}
+use Rattle.rounds.specs.Entry.{Reply, AnsweredBy}
 
 -- the question at i has four numbers, its row nineteen: the count, and two for each of nine marks
 abbrev pub question_at : ℕ → List ℕ → List ℕ

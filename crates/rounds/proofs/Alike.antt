@@ -11,10 +11,9 @@ use Rattle.journey.proofs.Chains.{joined_none, joined_says, joined_more}
 use Rattle.marks.specs.declared.mark.Mark.{Mark}
 use Rattle.marks.specs.Answers.{AnswerOf}
 use Rattle.rounds.specs.declared.query.Query.{Query}
-use Rattle.rounds.specs.declared.reply.Reply.{Reply}
 use Rattle.rounds.specs.Layout.{Alike}
 use Rattle.rounds.specs.Query.{query_checked}
-use Rattle.rounds.specs.Entry.{AnsweredBy}
+use Rattle.rounds.specs.Entry.{Reply, AnsweredBy}
 
 -- ---- other legs, among which are all those of the plan
 abbrev with_legs : Plan → List Leg → Plan

@@ -6,9 +6,9 @@ use Rattle.plan.specs.declared.walk.Walk.{Walk}
 use Rattle.plan.specs.Legs.{Plan, walk, no_walk}
 use Rattle.journey.specs.Journeys.{Ends}
 use Rattle.journey.specs.Journeys.Ends.{at_once, on_foot}
-use Rattle.rounds.specs.Layout.{Links, WalkAt, walk_from}
+use Rattle.rounds.specs.Layout.{ChainAt, Chains, walk_from}
 use Rattle.rounds.specs.Times.{earlier, Put}
-use Rattle.rounds.proofs.Linking.{chains_of, chain_at, chain_last, chain_inside, chain_which}
+use Rattle.rounds.proofs.Linking.{chain_last, chain_inside, chain_which}
 use Rattle.rounds.proofs.Levels.{Gets, at_pier, on_walk}
 
 -- x₁ is the least of x and the times T
@@ -49,16 +49,16 @@ pub record Gone (ws : List Walk) (s t d x x₁ at : ℕ) : Type 0 where
   pub given : (x₁ ≡ x) ⊎ Foot ws s t d x₁
 
 -- The walks of one pier by their chain, from the last to the first.
-module _ {ws : List Walk} {n : ℕ} {first link : List ℕ} (ls : Links ws n first link (length ws)) {s : ℕ} where
+module _ {ws : List Walk} {n : ℕ} {first link : List ℕ} (ls : Chains (walk_from ws) (length ws) n first link (length ws)) {s : ℕ} where
   pub gone_none : {t d x : ℕ} → Gone ws s t d x x (get_or first s 0)
   gone_none = record {
     below = le_refl _;
-    walked = λ i l h e f. absurd (chain_last (walk_from ws) (chains_of ls) i l h e);
+    walked = λ i l h e f. absurd (chain_last (walk_from ws) ls i l h e);
     given = inl refl;
   }
 
-module _ {ws : List Walk} {n : ℕ} {first link : List ℕ} (ls : Links ws n first link (length ws)) {s : ℕ}
-    (v : ℕ) (w : Walk) (is : w ≡ get_or ws v no_walk) {at : ℕ} (here : suc v ≡ at) (ok : WalkAt ws s at) where
+module _ {ws : List Walk} {n : ℕ} {first link : List ℕ} (ls : Chains (walk_from ws) (length ws) n first link (length ws)) {s : ℕ}
+    (v : ℕ) (w : Walk) (is : w ≡ get_or ws v no_walk) {at : ℕ} (here : suc v ≡ at) (ok : ChainAt (walk_from ws) (length ws) s at) where
   -- the walk at v, one before the place `at`
   pub gone_more : {t d x x₁ x₂ : ℕ} → Gone ws s t d x x₁ at → Put w.to (t + w.takes) d x₁ x₂ →
       Gone ws s t d x x₂ (get_or link v 0)
@@ -68,14 +68,14 @@ module _ {ws : List Walk} {n : ℕ} {first link : List ℕ} (ls : Links ws n fir
         ⊎_elim
         (λ old. omega (arith, earlier_second u x₁, b, g.walked i old h f k))
         (λ same. subst (λ m. x₂ ≤ t + (get_or ws m no_walk).takes) same (omega (arith, earlier_first u x₁, b)))
-        (chain_which (walk_from ws) (chains_of ls) v here (chain_at ok) i o f);
+        (chain_which (walk_from ws) ls v here ok i o f);
     given =
         ⊎_elim
         (λ y. ⊎_elim (λ z. inl (b ∙ y ∙ z)) (λ z. inr (subst (Foot ws s t d) (sym (b ∙ y)) z)) g.given)
         (λ y. inr (record {
           place = v;
-          within = chain_inside (walk_from ws) (chains_of ls) v here (chain_at ok);
-          from = ok.from v here;
+          within = chain_inside (walk_from ws) ls v here ok;
+          from = ok.of v here;
           to = sym (ap (λ (z : Walk). z.to) is) ∙ to;
           is = b ∙ y;
         }))
@@ -93,7 +93,7 @@ module _ {ws : List Walk} {n : ℕ} {first link : List ℕ} (ls : Links ws n fir
         ⊎_elim
         (λ old. omega (arith, e, g.walked i old h f k))
         (λ same. absurd (other (ap (λ (z : Walk). z.to) is ∙ ap (λ m. (get_or ws m no_walk).to) same ∙ k)))
-        (chain_which (walk_from ws) (chains_of ls) v here (chain_at ok) i o f);
+        (chain_which (walk_from ws) ls v here ok i o f);
     given = ⊎_elim (λ z. inl (e ∙ z)) (λ z. inr (subst (Foot ws s t d) (sym e) z)) g.given;
   }
 

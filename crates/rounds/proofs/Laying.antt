@@ -1,7 +1,7 @@
 -- The rows that were filled lay the plan out.
-use Rattle.std.proofs.Common.{◌≡◌, ℕ, suc, ◌+◌, ◌<◌, ◌≤◌, Bool, true, false, List, length, get_or, set, sym, ap, ◌∙◌, subst, inl, inr, ⊎_elim, arith}
+use Rattle.std.proofs.Common.{◌≡◌, ℕ, suc, ◌+◌, ◌-◌, ◌<◌, ◌≤◌, Bool, true, false, ◌&&◌, ltb, List, length, get_or, set, sym, ap, ◌∙◌, subst, inl, inr, ⊎_elim, arith}
 use Rattle.std.proofs.lemmas.List.{same_lists, get_or_default, get_or-set_same, get_or-set_other}
-use Rattle.std.proofs.lemmas.Bool.{cases_lt, cases_order}
+use Rattle.std.proofs.lemmas.Bool.{cases_lt, cases_order, and_parts, and_from, ltb-true, lt-ltb}
 use Rattle.std.proofs.lemmas.Bool.Decides.{nat_tests}
 use Rattle.plan.specs.declared.leg.Leg.{Leg}
 use Rattle.plan.specs.declared.walk.Walk.{Walk}
@@ -11,8 +11,8 @@ use Rattle.plan.specs.Keys.{name_of}
 use Rattle.journey.specs.Steps.{stays}
 use Rattle.journey.specs.Journeys.{in_plan}
 use Rattle.journey.proofs.PlanLegs.{in_plan_place, place_in_plan}
-use Rattle.rounds.specs.Layout.{JoinAt, InRuns, Links, Laid, Alike}
-use Rattle.rounds.specs.Opened.{place_at, LegsLaid, IsJoined}
+use Rattle.rounds.specs.Layout.{Chains, InRuns, Laid, Alike, walk_from, is_joined}
+use Rattle.rounds.specs.Opened.{place_at, LegsLaid}
 
 -- ---- a row that was filled place by place
 pub row_filled : {A : Type 0} (d : A) (xs ys : List A) → length xs ≡ length ys →
@@ -38,40 +38,30 @@ walks_from {p} {ws} {n} s is many j h =
     let e = ap (λ (zs : List Walk). (get_or zs j no_walk).from) is in
     omega (arith, w.from)
 
--- ---- a leg behind them changes no join, and one more of the joins
-pub joins_kept : {legs : List Leg} {joins : List Bool} (a : Leg) (c : ℕ) → ((m : ℕ) → m < c → JoinAt legs joins m) →
-    (m : ℕ) → m < c → JoinAt (set legs c a) joins m
-joins_kept {legs} {joins} a c before m h = record {
-  given = λ e.
-      let (j, next, st, r) = (before m h).given e in
-      (j, next, same_stays j next ∙ st, ap runs (other m h) ∙ r);
-  told = λ j next st r. (before m h).told j next (sym (same_stays j next) ∙ st) (sym (ap runs (other m h)) ∙ r);
-}
+-- ---- a leg behind them changes no join
+pub joins_kept : (legs : List Leg) (a : Leg) (c m : ℕ) → m < c → is_joined (set legs c a) m ≡ is_joined legs m
+joins_kept legs a c m h =
+    ap (λ (x : Leg). ltb 0 m && (runs x && stays (get_or (set legs c a) (m - 1) no_leg) x)) (other m h)
+    ∙ ap (λ (x : Leg). ltb 0 m && (runs (get_or legs m no_leg) && stays x (get_or legs m no_leg))) (other (m - 1) (omega arith))
   where
     other : (i : ℕ) → i < c → get_or (set legs c a) i no_leg ≡ get_or legs i no_leg
     other i l = get_or-set_other legs c i a no_leg (λ s. omega arith)
 
-    same_stays : (j : ℕ) → suc j ≡ m →
-        stays (get_or (set legs c a) j no_leg) (get_or (set legs c a) m no_leg) ≡ stays (get_or legs j no_leg) (get_or legs m no_leg)
-    same_stays j next =
-        ap (λ (x : Leg). stays x (get_or (set legs c a) m no_leg)) (other j (omega arith))
-        ∙ ap (stays (get_or legs j no_leg)) (other m h)
+-- whoever may stay aboard for a leg does so from the leg right before it
+pub join_given : (legs : List Leg) (i : ℕ) → is_joined legs i ≡ true →
+    (j : ℕ) × (suc j ≡ i) × (stays (get_or legs j no_leg) (get_or legs i no_leg) ≡ true) × (runs (get_or legs i no_leg) ≡ true)
+join_given legs i e =
+    let (some, rest) = and_parts _ _ e in
+    let (going, st) = and_parts _ _ rest in
+    let after : 0 < i = ltb-true 0 i some in
+    (i - 1, omega arith, st, going)
 
-pub joins_more : {legs : List Leg} {joins : List Bool} (i : ℕ) (r : Bool) → i < length joins → IsJoined legs i r →
-    ((m : ℕ) → m < i → JoinAt legs joins m) → (m : ℕ) → m < i + 1 → JoinAt legs (set joins i r) m
-joins_more {legs} {joins} i r h is before m l =
-    ⊎_elim earlier (λ ge. subst (JoinAt legs (set joins i r)) (omega arith) here) (cases_lt m i)
-  where
-    earlier : m < i → JoinAt legs (set joins i r) m
-    earlier lt =
-        let n = get_or-set_other joins i m r false (λ s. omega arith) in
-        let z = before m lt in
-        record { given = λ e. z.given (sym n ∙ e); told = λ j s a b. n ∙ z.told j s a b }
-
-    here : JoinAt legs (set joins i r) i
-    here =
-        let n = get_or-set_same joins i r false h in
-        record { given = λ e. is.given (sym n ∙ e); told = λ j s a b. n ∙ is.told j s a b }
+pub join_told : (legs : List Leg) (i j : ℕ) → suc j ≡ i →
+    stays (get_or legs j no_leg) (get_or legs i no_leg) ≡ true → runs (get_or legs i no_leg) ≡ true → is_joined legs i ≡ true
+join_told legs i j next st going =
+    let same : j ≡ i - 1 = omega arith in
+    and_from _ _ (lt-ltb _ _ (omega arith))
+    (and_from _ _ going (subst (λ m. stays (get_or legs m no_leg) (get_or legs i no_leg) ≡ true) same st))
 
 -- ---- the legs
 --
@@ -129,10 +119,10 @@ pub record Filled (p : Plan) (keys : List ℕ) (p₁ : Plan) (joins : List Bool)
   pub first_long : length first ≡ piers p
   pub link_long : length link ≡ length p₁.walks
   pub legs : LegsLaid p keys p₁.legs
-  pub joined : (i : ℕ) → i < length p₁.legs → JoinAt p₁.legs joins i
+  pub joined : (i : ℕ) → i < length p₁.legs → get_or joins i false ≡ is_joined p₁.legs i
   pub walks : p₁.walks ≡ p.walks
   pub change : p₁.change ≡ p.change
-  pub chained : Links p₁.walks (length first) first link (length p₁.walks)
+  pub chained : Chains (walk_from p₁.walks) (length p₁.walks) (length first) first link (length p₁.walks)
 
 module _ {p : Plan} {keys : List ℕ} {p₁ : Plan} {joins : List Bool} {first link : List ℕ} (s : Sound p)
     (f : Filled p keys p₁ joins first link) where
@@ -171,5 +161,5 @@ module _ {p : Plan} {keys : List ℕ} {p₁ : Plan} {joins : List Bool} {first l
     changes = change_within;
     in_runs = legs_in_runs p keys p₁.legs f.legs;
     joined = f.joined;
-    chained = subst (λ n. Links p₁.walks n first link (length p₁.walks)) (f.first_long ∙ same_piers) f.chained;
+    chained = subst (λ n. Chains (walk_from p₁.walks) (length p₁.walks) n first link (length p₁.walks)) (f.first_long ∙ same_piers) f.chained;
   }

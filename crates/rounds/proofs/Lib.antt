@@ -1,6 +1,7 @@
 pub mod Alike
 pub mod Ordering
 pub mod Laying
+pub mod Along
 pub mod Linking
 pub mod Levels
 pub mod Cells

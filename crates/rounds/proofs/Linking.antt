@@ -1,8 +1,9 @@
 -- Chains of things by the pier that each belongs to: going along a chain misses none of its pier.
-use Rattle.std.proofs.Common.{◌≡◌, ℕ, suc, ◌<◌, ◌≤◌, ◌⊎◌, List, length, get_or, sym, ◌∙◌, subst, inl, inr, ⊎_elim, arith}
+use Rattle.std.proofs.Common.{◌≡◌, ℕ, suc, ◌<◌, ◌≤◌, ◌⊎◌, List, [], ◌∷◌, length, get_or, sym, ◌∙◌, subst, inl, inr, ⊎_elim, arith}
 use Rattle.std.proofs.lemmas.Bool.{cases_lt, cases_eq}
-use Rattle.plan.specs.declared.walk.Walk.{Walk}
-use Rattle.rounds.specs.Layout.{ChainAt, Chains, WalkAt, Links, walk_from}
+use Rattle.rounds.specs.Chains.{Falls, places}
+use Rattle.rounds.specs.Layout.{ChainAt, Chains}
+use Rattle.rounds.proofs.Along.{places_first, places_end}
 
 module _ (pier : ℕ → ℕ) {n n_piers : ℕ} {first link : List ℕ} (cs : Chains pier n n_piers first link n) {s : ℕ} where
   -- nothing of the pier stands behind the last one of its chain
@@ -28,31 +29,21 @@ module _ (pier : ℕ → ℕ) {n n_piers : ℕ} {first link : List ℕ} (cs : Ch
         past : (v ≡ i → ⊥) → v ≤ i → at ≤ i
         past ne o = ⊎_elim (λ lt. omega arith) (λ ge. absurd (ne (omega arith))) (cases_lt v i)
 
--- ---- the walks are chained by the pier they go from
-module _ {ws : List Walk} {s at : ℕ} where
-  pub chain_at : WalkAt ws s at → ChainAt (walk_from ws) (length ws) s at
-  chain_at w = record { within = w.within; of = w.from }
+-- ---- along a chain, place by place
+module _ (pier : ℕ → ℕ) {n n_piers : ℕ} {first link : List ℕ} (cs : Chains pier n n_piers first link n)
+    (long : length link ≡ n) where
+  pub chain_falls : Falls link
+  chain_falls i h = cs.link_less i (omega arith)
 
-  pub walk_at : ChainAt (walk_from ws) (length ws) s at → WalkAt ws s at
-  walk_at c = record { within = c.within; from = c.of }
+  pub chain_within : length first ≡ n_piers → (s : ℕ) → s < length first → get_or first s 0 ≤ length link
+  chain_within piers s h = let z = cs.first_less s (omega arith) in omega arith
 
-module _ {ws : List Walk} {n_piers : ℕ} {first link : List ℕ} {m : ℕ} where
-  pub chains_of : Links ws n_piers first link m → Chains (walk_from ws) (length ws) n_piers first link m
-  chains_of l = record {
-    first_at = λ s h. chain_at (l.first_at s h);
-    first_less = l.first_less;
-    first_all = l.first_all;
-    link_at = λ i h. chain_at (l.link_at i h);
-    link_less = l.link_less;
-    link_all = l.link_all;
-  }
+  -- the next place is the one before `at`, and behind it comes what it is linked to
+  pub chain_step : {s at i : ℕ} {rest rest₁ : List ℕ} → ChainAt pier n s at → rest ≡ places link at → rest ≡ i ∷ rest₁ →
+      (suc i ≡ at) × (rest₁ ≡ places link (get_or link i 0))
+  chain_step {at = at} {i = i} {rest₁ = rest₁} ok left next =
+      places_first link chain_falls at i rest₁ (omega (arith, ok.within)) (sym left ∙ next)
 
-  pub links_of : Chains (walk_from ws) (length ws) n_piers first link m → Links ws n_piers first link m
-  links_of c = record {
-    first_at = λ s h. walk_at (c.first_at s h);
-    first_less = c.first_less;
-    first_all = c.first_all;
-    link_at = λ i h. walk_at (c.link_at i h);
-    link_less = c.link_less;
-    link_all = c.link_all;
-  }
+  -- where no place is left, `at` is 0
+  pub chain_end : {s at : ℕ} {rest : List ℕ} → ChainAt pier n s at → rest ≡ places link at → rest ≡ [] → at ≡ 0
+  chain_end {at = at} ok left none = places_end link chain_falls at (omega (arith, ok.within)) (sym left ∙ none)

@@ -4,10 +4,11 @@ use Rattle.std.proofs.lemmas.Bool.{cases_lt, cases_eq, leb-true, le-leb, ltb-tru
 use Rattle.plan.specs.Legs.{Plan, leg, runs, piers}
 use Rattle.journey.specs.Aboard.AboardBy.{start, stay}
 use Rattle.journey.proofs.PlanLegs.{usable_at}
-use Rattle.rounds.specs.Layout.{JoinAt, InRuns, Laid}
+use Rattle.rounds.specs.Layout.{InRuns, Laid, is_joined}
 use Rattle.rounds.specs.Levels.{AboardFrom, Levels}
 use Rattle.rounds.specs.Times.{never}
 use Rattle.rounds.specs.Boarding.{ready_for, Opens, from_outside, from_pier, from_before}
+use Rattle.rounds.proofs.Laying.{join_given, join_told}
 use Rattle.rounds.proofs.Levels.{Readies, Kept, Closed, seeds_more, ready_boards}
 
 -- every leg goes from a pier that has a time, and leaves before `never`
@@ -19,11 +20,11 @@ pub laid_fits : {p : Plan} {joins : List Bool} {first link : List ℕ} (ready : 
 laid_fits ready laid h j l = let f = laid.legs j l in (omega (arith, f.from), omega (arith, f.leaves))
 
 -- the test: to stay aboard, to come from outside, to be ready in time
-module _ {p : Plan} {joins : List Bool} {seed ready level : List ℕ} {boats i : ℕ} (j : JoinAt p.legs joins i) where
+module _ (p : Plan) (joins : List Bool) (seed ready level : List ℕ) (boats i : ℕ) (j : get_or joins i false ≡ is_joined p.legs i) where
   pub opens_stayed : (get_or joins i false && ltb 0 (get_or level (i - 1) 0)) ≡ true → Opens p seed boats ready level i
   opens_stayed e =
       let (joined, risen) = and_parts _ _ e in
-      let (m, next, st, r) = j.given joined in
+      let (m, next, st, r) = join_given p.legs i (sym j ∙ joined) in
       let same : i - 1 ≡ m = omega arith in
       from_before m next (omega (arith, ltb-true _ _ risen, ap (λ z. get_or level z 0) same)) st
 
@@ -40,7 +41,7 @@ module _ {p : Plan} {joins : List Bool} {seed ready level : List ℕ} {boats i :
       told (from_pier h) = le-leb _ _ h
       told (from_before m e l st) =
           let same : i - 1 ≡ m = omega arith in
-          absurd (both_ways _ unstayed (and_from _ _ (j.told m e st go)
+          absurd (both_ways _ unstayed (and_from _ _ (j ∙ join_told p.legs i m e st go)
           (lt-ltb _ _ (omega (arith, ap (λ z. get_or level z 0) same)))))
 
 -- no leg below i that runs and has no level can be boarded in round k + 1

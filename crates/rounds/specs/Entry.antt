@@ -10,24 +10,21 @@ use Rattle.marks.specs.declared.front.Front.{Front}
 use Rattle.marks.specs.Fronts.{marks_of}
 use Rattle.marks.specs.Row.{row_reply, row_after}
 use Rattle.rounds.specs.declared.query.Query.{Query}
-use Rattle.rounds.specs.declared.reply.Reply.{Reply}
-use Rattle.rounds.specs.declared.reply.Reply.TheVariants.{Done, Refused}
 use Rattle.rounds.specs.Query.{query_checked}
 use Rattle.rounds.specs.Answers.{Answer}
 
--- what a caller is told: done, with so many, or why not
-abbrev pub reply_of : Result ℕ Refusal → Reply
-reply_of (Ok n) = Done n
-reply_of (Err e) = Refused e
+-- what a caller is told: how many were written, or why nothing was done
+abbrev pub Reply : Type 0
+Reply = Result ℕ Refusal
 
 -- in numbers: 0 where it is done, else the refusal's number; and the count or the place
 abbrev pub reply_number : Reply → ℕ
-reply_number (Done n) = 0
-reply_number (Refused e) = number_of e
+reply_number (Ok n) = 0
+reply_number (Err e) = number_of e
 
 abbrev pub reply_value : Reply → ℕ
-reply_value (Done n) = n
-reply_value (Refused e) = place_of e
+reply_value (Ok n) = n
+reply_value (Err e) = place_of e
 
 -- the question that the numbers ask of the plan that the words hold, or the first refusal that applies
 abbrev pub asked : List ℕ → List ℕ → Result Query Refusal
@@ -44,11 +41,11 @@ MarkedBy (Ok a) p (Err e) = ⊥
 pub record Told (p : Plan) (a : Query) (row : List ℕ) (r : Reply) (row₁ : List ℕ) : Type 0 where
   pub marks : List Mark
   pub answer : Answer p a.most a.question marks
-  pub reply : r ≡ reply_of (row_reply marks row)
+  pub reply : r ≡ row_reply marks row
   pub after : row₁ ≡ row_after marks row
 
 abbrev pub AnsweredBy : Result Query Refusal → Plan → List ℕ → Reply → List ℕ → Type 0
-AnsweredBy (Err e) p row r row₁ = (r ≡ Refused e) × (row₁ ≡ row)
+AnsweredBy (Err e) p row r row₁ = (r ≡ Err e) × (row₁ ≡ row)
 AnsweredBy (Ok a) p row r row₁ = Told p a row r row₁
 
 -- a question is answered: the reply, and the whole row

@@ -1,5 +1,5 @@
 -- A plan laid out for questions: its legs by run and number, its walks chained by the pier they go from.
-use Rattle.std.specs.Prelude.{◌≡◌, ℕ, suc, ◌<◌, ◌≤◌, Bool, true, false, List, length, get_or, slice_index, slice_index_or}
+use Rattle.std.specs.Prelude.{◌≡◌, ℕ, suc, ◌-◌, ◌<◌, ◌≤◌, Bool, true, false, ◌&&◌, List, length, nat_lt, slice_index, slice_index_or}
 use Rattle.plan.specs.declared.leg.Leg.{Leg}
 use Rattle.plan.specs.declared.walk.Walk.{Walk}
 use Rattle.plan.specs.Legs.{Plan, no_leg, no_walk, leg, walk, change_at, piers, runs, time_bound}
@@ -8,11 +8,9 @@ use Rattle.journey.specs.Steps.{stays}
 use Rattle.journey.specs.Journeys.{in_plan}
 
 -- whether one may stay aboard for the leg i: it runs, and is the next of the run of the leg that stands right before it
-pub record JoinAt (legs : List Leg) (joins : List Bool) (i : ℕ) : Type 0 where
-  pub given : get_or joins i false ≡ true →
-      (j : ℕ) × (suc j ≡ i) × (stays (slice_index_or legs j no_leg) (slice_index_or legs i no_leg) ≡ true) × (runs (slice_index_or legs i no_leg) ≡ true)
-  pub told : (j : ℕ) → suc j ≡ i → stays (slice_index_or legs j no_leg) (slice_index_or legs i no_leg) ≡ true → runs (slice_index_or legs i no_leg) ≡ true →
-      slice_index_or joins i false ≡ true
+abbrev pub is_joined : List Leg → ℕ → Bool
+is_joined legs i =
+    nat_lt 0 i && (runs (slice_index_or legs i no_leg) && stays (slice_index_or legs (i - 1) no_leg) (slice_index_or legs i no_leg))
 
 -- a leg that is stayed aboard for stands right behind the one before it
 abbrev pub InRuns : List Leg → Type 0
@@ -36,22 +34,7 @@ pub record Chains (pier : ℕ → ℕ) (n n_piers : ℕ) (first link : List ℕ)
 
 -- the walks by the pier they go from
 abbrev pub walk_from : List Walk → ℕ → ℕ
-walk_from ws j = (get_or ws j no_walk).from
-
--- one more than the place of a walk from the pier s, or 0
-pub record WalkAt (ws : List Walk) (s at : ℕ) : Type 0 where
-  pub within : at ≤ length ws
-  pub from : (x : ℕ) → suc x ≡ at → (get_or ws x no_walk).from ≡ s
-
--- The chains of the first n walks: for each pier its last walk, and for each walk the one before it from the same pier.
--- That `first` and `link` lie above every walk of their pier below them is all that is needed to miss none.
-pub record Links (ws : List Walk) (n_piers : ℕ) (first link : List ℕ) (n : ℕ) : Type 0 where
-  pub first_at : (s : ℕ) → s < n_piers → WalkAt ws s (slice_index first s)
-  pub first_less : (s : ℕ) → s < n_piers → slice_index first s ≤ n
-  pub first_all : (i : ℕ) → i < n → i < slice_index first (get_or ws i no_walk).from
-  pub link_at : (i : ℕ) → i < n → WalkAt ws (get_or ws i no_walk).from (slice_index link i)
-  pub link_less : (i : ℕ) → i < n → slice_index link i ≤ i
-  pub link_all : (i j : ℕ) → i < n → j < i → (get_or ws j no_walk).from ≡ (get_or ws i no_walk).from → j < slice_index link i
+walk_from ws j = (slice_index_or ws j no_walk).from
 
 -- the rows that lay a plan out: the plan p itself, and what is known of it by place
 pub record Laid (p : Plan) (joins : List Bool) (first link : List ℕ) : Type 0 where
@@ -62,8 +45,8 @@ pub record Laid (p : Plan) (joins : List Bool) (first link : List ℕ) : Type 0 
   pub walks : (j : ℕ) → j < length p.walks → WalkWithin (piers p) (walk p j)
   pub changes : (s : ℕ) → s < piers p → change_at p s < time_bound
   pub in_runs : InRuns p.legs
-  pub joined : (i : ℕ) → i < length p.legs → JoinAt p.legs joins i
-  pub chained : Links p.walks (piers p) first link (length p.walks)
+  pub joined : (i : ℕ) → i < length p.legs → slice_index_or joins i false ≡ is_joined p.legs i
+  pub chained : Chains (walk_from p.walks) (length p.walks) (piers p) first link (length p.walks)
 
 -- the same plan with its legs in another order
 pub record Alike (p p₁ : Plan) : Type 0 where

@@ -1,3 +1,4 @@
+pub mod Chains
 pub mod Layout
 pub mod Opened
 pub mod Query

@@ -1,11 +1,9 @@
 -- How the rows of a laid out plan came from the plan.
-use Rattle.std.specs.Prelude.{◌≡◌, ℕ, suc, ◌<◌, ◌≤◌, Bool, true, List, length, slice_index, slice_index_or}
+use Rattle.std.specs.Prelude.{◌≡◌, ℕ, ◌<◌, ◌≤◌, Bool, List, length, slice_index, slice_index_or}
 use Rattle.plan.specs.declared.leg.Leg.{Leg}
 use Rattle.plan.specs.declared.walk.Walk.{Walk}
-use Rattle.plan.specs.Legs.{Plan, no_leg, leg, piers, runs}
-use Rattle.plan.specs.Check.{most_piers, most_legs, most_walks}
+use Rattle.plan.specs.Legs.{Plan, no_leg, leg, piers}
 use Rattle.plan.specs.Keys.{name_of, key_place}
-use Rattle.journey.specs.Steps.{stays}
 
 -- the plan that the rows hold
 abbrev pub plan_of : List Leg → List Walk → List ℕ → Plan
@@ -21,15 +19,6 @@ pub record Room (p : Plan) (legs : List Leg) (joins : List Bool) (walks : List W
   pub change_long : length change ≡ piers p
   pub first_long : length first ≡ length change
   pub link_long : length link ≡ length walks
-
--- rows that any plan fits in which the check takes
-pub record Ample (legs : List Leg) (joins : List Bool) (walks : List Walk) (change first link : List ℕ) : Type 0 where
-  pub legs_room : most_legs ≤ length legs
-  pub joins_room : most_legs ≤ length joins
-  pub walks_room : most_walks ≤ length walks
-  pub change_room : most_piers ≤ length change
-  pub first_room : most_piers ≤ length first
-  pub link_room : most_walks ≤ length link
 
 -- rows that the plan fits in
 pub record Roomy (p : Plan) (legs : List Leg) (joins : List Bool) (walks : List Walk) (change first link : List ℕ) : Type 0 where
@@ -53,10 +42,3 @@ pub record LegsLaid (p : Plan) (keys : List ℕ) (legs : List Leg) : Type 0 wher
   pub all : (i : ℕ) → i < length p.legs → (c : ℕ) × (c < length legs) × (place_at keys c ≡ i)
   pub once : (c m : ℕ) → c < length legs → m < length legs → place_at keys c ≡ place_at keys m → c ≡ m
   pub rises : (c m : ℕ) → c < m → m < length legs → name_of (slice_index_or legs c no_leg) < name_of (slice_index_or legs m no_leg)
-
--- whether one may stay aboard for the leg i from the leg right before it
-pub record IsJoined (legs : List Leg) (i : ℕ) (r : Bool) : Type 0 where
-  pub given : r ≡ true →
-      (j : ℕ) × (suc j ≡ i) × (stays (slice_index_or legs j no_leg) (slice_index_or legs i no_leg) ≡ true) × (runs (slice_index_or legs i no_leg) ≡ true)
-  pub told : (j : ℕ) → suc j ≡ i → stays (slice_index_or legs j no_leg) (slice_index_or legs i no_leg) ≡ true →
-      runs (slice_index_or legs i no_leg) ≡ true → r ≡ true

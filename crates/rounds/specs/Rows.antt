@@ -1,11 +1,12 @@
--- The plan that the rows of a layout hold.
+-- The plan that the rows of a layout hold, and the places that are left along a chain.
+use Rattle.std.specs.Prelude.{ℕ, List}
 use Rattle.plan.specs.Legs.{Plan}
+use Rattle.rounds.specs.declared.chains.Along.{Along}
 use Rattle.rounds.specs.declared.layout.Layout.{Layout}
-use Rattle.rounds.specs.Layout.{Laid}
+use Rattle.rounds.specs.Chains.{places}
 
 abbrev pub plan_of : Layout → Plan
 plan_of l = record { legs = l.legs.now; walks = l.walks.now; change = l.change.now }
 
--- its rows lay it out
-abbrev pub Lies : Layout → Type 0
-Lies l = Laid (plan_of l) l.joins.now l.first.now l.link.now
+abbrev pub places_left : Along → List ℕ
+places_left s = places s.prior.now s.at

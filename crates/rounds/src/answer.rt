@@ -6,79 +6,57 @@ ghost use Rattle.plan.specs.Sound.{Few};
 ghost use Rattle.plan.specs.Keys.{Ordered};
 ghost use Rattle.marks.specs.Fronts.{marks_of};
 ghost use Rattle.rounds.specs.Query.{query_checked};
-ghost use Rattle.rounds.specs.Rows.{plan_of, Lies};
+ghost use Rattle.rounds.specs.Rows.{plan_of};
 ghost use Rattle.rounds.specs.Answers.{Answer, Asked};
 ghost use Rattle.rounds.specs.Entry.{Answered, AnsweredBy, MarkedBy};
 
-use crate::asking::answer_laid;
 use crate::layout::{BLANK_LEG, BLANK_WALK, Layout};
 use crate::opening::Rows;
 use crate::query::{Query, read_query};
-use crate::reply::Reply;
+use crate::workspace::Workspace;
 use marks::front::Front;
+use plan::bounds::{MOST_LEGS, MOST_PIERS, MOST_WALKS};
 use plan::checking::check_in_order;
 use plan::refusal::Refusal;
 use plan::timetable::Timetable;
 
 // The answer to a question about a plan that is laid out, with working rows on the stack.
 fn ask(layout: Layout, query: Query) -> Front
-    requires laid { Lies layout }
     requires few { Few (plan_of layout) }
     requires asked { Asked (plan_of layout) query.question }
     requires most { query.most ≤ 8 }
     ensures { Answer (plan_of layout.entry) query.most query.question (marks_of result) }
 {
-    let legs = layout.legs.len();
-    let piers = layout.change.len();
-    let mut level = [0u8; 1024];
-    let mut seed = [0u8; 1024];
-    let mut waits = [0u16; 1024];
-    let mut ready = [0u64; 64];
-    let mut later = [0u64; 64];
-    let mut arrived = [0u64; 64];
-    answer_laid(
-        layout,
-        query.question,
-        query.most,
-        &mut level[0..legs],
-        &mut seed[0..legs],
-        &mut ready[0..piers],
-        &mut later[0..piers],
-        &mut arrived[0..piers],
-        &mut waits[0..legs],
-    )
+    Workspace::new().answer(layout, query)
 }
 
 // The marks that answer a question about a plan that was laid out before: nothing of the plan is checked again.
 pub fn marks_opened(layout: Layout, question: &[u64]) -> Result<Front, Refusal>
-    requires laid { Lies layout }
     requires few { Few (plan_of layout) }
     ensures { MarkedBy (query_checked (piers (plan_of layout.entry)) question.now) (plan_of layout.entry) result }
 {
-    let query = read_query(layout.change.len(), question)?;
-    Ok(ask(layout, query))
+    let asked = read_query(layout.change.len(), question)?;
+    Ok(ask(layout, asked))
 }
 
 // The same, written into the lent row.
-pub fn answer_opened(layout: Layout, question: &[u64], out: &mut [u64]) -> Reply
-    requires laid { Lies layout }
+pub fn answer_opened(layout: Layout, question: &[u64], out: &mut [u64]) -> Result<u64, Refusal>
     requires few { Few (plan_of layout) }
     ensures { AnsweredBy (query_checked (piers (plan_of layout.entry)) question.now)
         (plan_of layout.entry) out.old result out.new }
 {
-    match read_query(layout.change.len(), question) {
-        Ok(query) => Reply::of(ask(layout, query).write(out)),
-        Err(refusal) => Reply::Refused(refusal),
-    }
+    let query = read_query(layout.change.len(), question)?;
+    ask(layout, query).write(out)
 }
 
-// The answer to a question about a checked plan of at most so many legs: lays it out in rows on the stack, and asks.
+// The answer to a question about a checked plan of at most so many legs: lays it out in rows on the stack, and asks. The
+// rows are its own, since the check covers no struct that owns rows and lends several of them at once.
 fn answer_in_rows<const LEGS: usize>(
     table: Timetable,
     keys: &[u64],
     question: &[u64],
     out: &mut [u64],
-) -> Reply
+) -> Result<u64, Refusal>
     requires ordered { Ordered (plan_in table.words.now) keys.now }
     requires few { Few (plan_in table.words.now) }
     requires room { length (plan_in table.words.now).legs ≤ LEGS }
@@ -88,10 +66,10 @@ fn answer_in_rows<const LEGS: usize>(
 {
     let mut legs = [BLANK_LEG; LEGS];
     let mut joins = [false; LEGS];
-    let mut walks = [BLANK_WALK; 256];
-    let mut first = [0u16; 64];
-    let mut link = [0u16; 256];
-    let mut change = [0u64; 64];
+    let mut walks = [BLANK_WALK; MOST_WALKS];
+    let mut first = [0u16; MOST_PIERS];
+    let mut link = [0u16; MOST_WALKS];
+    let mut change = [0u64; MOST_PIERS];
     let rows = Rows {
         legs: &mut legs,
         joins: &mut joins,
@@ -105,7 +83,12 @@ fn answer_in_rows<const LEGS: usize>(
 
 // The same in rows that are not much longer than the plan: to clear rows for the largest would take a small one most of
 // its time.
-fn answer_checked(table: Timetable, keys: &[u64], question: &[u64], out: &mut [u64]) -> Reply
+fn answer_checked(
+    table: Timetable,
+    keys: &[u64],
+    question: &[u64],
+    out: &mut [u64],
+) -> Result<u64, Refusal>
     requires ordered { Ordered (plan_in table.words.now) keys.now }
     requires few { Few (plan_in table.words.now) }
     ensures { AnsweredBy (query_checked (piers (plan_in table.entry.words.now)) question.now)
@@ -117,22 +100,18 @@ fn answer_checked(table: Timetable, keys: &[u64], question: &[u64], out: &mut [u
     } else if legs <= 512 {
         answer_in_rows::<512>(table, keys, question, out)
     } else {
-        answer_in_rows::<1024>(table, keys, question, out)
+        answer_in_rows::<MOST_LEGS>(table, keys, question, out)
     }
 }
 
 // The answer to a question about a plan in lent memory, written into the lent row: the count of marks, and the arrival
 // and the boats of each. Where it is refused, the row is as it was.
-pub fn answer(plan: &[u64], question: &[u64], out: &mut [u64]) -> Reply
+pub fn answer(plan: &[u64], question: &[u64], out: &mut [u64]) -> Result<u64, Refusal>
     ensures { Answered plan.now question.now out.old result out.new }
 {
-    let mut keys = [0u64; 1024];
-    match check_in_order(plan, &mut keys) {
-        Ok(_) => {
-            let table = Timetable::of(plan);
-            let legs = table.legs();
-            answer_checked(table, &keys[0..legs], question, out)
-        }
-        Err(refusal) => Reply::Refused(refusal),
-    }
+    let mut keys = [0u64; MOST_LEGS];
+    let _ = check_in_order(plan, &mut keys)?;
+    let table = Timetable::of(plan);
+    let legs = table.legs();
+    answer_checked(table, &keys[..legs], question, out)
 }

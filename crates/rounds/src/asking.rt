@@ -3,7 +3,7 @@ ghost use Rattle.std.specs.Prelude.{◌≡◌, ℕ, ◌+◌, ◌<◌, ◌≤◌,
 ghost use Rattle.plan.specs.Legs.{leg, time_bound};
 ghost use Rattle.journey.specs.Aboard.{Aboard};
 ghost use Rattle.marks.specs.Fronts.{marks_of};
-ghost use Rattle.rounds.specs.Rows.{plan_of, Lies};
+ghost use Rattle.rounds.specs.Rows.{plan_of};
 ghost use Rattle.rounds.specs.Levels.{Levels};
 ghost use Rattle.rounds.specs.Times.{Outset};
 ghost use Rattle.rounds.specs.Boarding.{ready_for};
@@ -11,49 +11,39 @@ ghost use Rattle.rounds.specs.Answers.{Answer, Asked, Seeds};
 
 use crate::layout::Layout;
 use crate::rounds::go_rounds_until;
-use crate::steps::{NEVER, leg_at, lower, walk_at};
+use crate::steps::{NEVER, is_in_time, lower};
 use journey::question::Question;
 use marks::front::Front;
 
 // For each pier the earliest time at which one is there without a boat.
 fn set_out(layout: Layout, q: Question, ready: &mut [u64])
-    requires laid { Lies layout }
     requires asked { Asked (plan_of layout) q }
     requires piers { length ready.old ≡ length layout.change.now }
     ensures { Outset (plan_of layout.entry) q.from q.time ready.new }
 {
     ready.fill(NEVER);
     lower(ready, q.from as usize, q.time);
-    let mut at = layout.first[q.from as usize] as usize;
-    'walks: while at != 0 {
-        let w = walk_at(layout.walks, at - 1);
+    for j in layout.walks_from(q.from as usize) {
+        let w = layout.walk(j);
         lower(ready, w.to as usize, q.time + w.takes);
-        at = layout.link[at - 1] as usize;
     }
 }
 
 // One boat for each leg whose pier one is at in time.
 fn sow(layout: Layout, ready: &[u64], seed: &mut [u8])
-    requires laid { Lies layout }
     requires piers { length ready.now ≡ length layout.change.now }
     requires seeds { length seed.old ≡ length layout.legs.now }
     ensures { (i : ℕ) → i < length layout.entry.legs.now →
         slice_index seed.new i ≡ (if ready_for ready.now (leg (plan_of layout.entry) i) then 1 else 0) }
 {
-    for i in 0..layout.legs.len() {
-        let a = leg_at(layout.legs, i);
-        seed[i] = if ready[a.from as usize] <= a.leaves {
-            1
-        } else {
-            0
-        };
+    for (i, boats) in seed.iter_mut().enumerate() {
+        *boats = u8::from(is_in_time(layout, ready, i));
     }
 }
 
 // Seeds the legs that a journey can begin with, and leaves in `ready` when one is at each pier without a boat. Whether
 // a leg runs is not asked: the rounds take none that does not.
 fn seed_question(layout: Layout, q: Question, ready: &mut [u64], seed: &mut [u8])
-    requires laid { Lies layout }
     requires asked { Asked (plan_of layout) q }
     requires piers { length ready.old ≡ length layout.change.now }
     requires seeds { length seed.old ≡ length layout.legs.now }
@@ -77,7 +67,6 @@ pub fn answer_laid(
     arrived: &mut [u64],
     waits: &mut [u16],
 ) -> Front
-    requires laid { Lies layout }
     requires legs { length layout.legs.now ≤ 65536 }
     requires asked { Asked (plan_of layout) q }
     requires few { most ≤ 8 }

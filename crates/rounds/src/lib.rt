@@ -3,9 +3,11 @@
 
 pub mod answer;
 pub mod asking;
+pub mod chains;
 pub mod layout;
 pub mod opening;
 pub mod query;
 pub mod reply;
 pub mod rounds;
 pub mod steps;
+pub mod workspace;

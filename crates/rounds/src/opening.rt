@@ -1,12 +1,13 @@
 // A plan is laid out for questions: its legs by run and number, its walks chained by the pier they go from.
-ghost use Rattle.std.specs.Prelude.{◌≡◌, ℕ, suc, ◌<◌, ◌≤◌, length, slice_index, slice_index_or, slice_set};
+ghost use Rattle.std.specs.Prelude.{◌≡◌, ℕ, suc, ◌<◌, ◌≤◌, false, length, slice_index, slice_index_or, slice_set};
 ghost use Rattle.plan.specs.Legs.{no_walk, piers};
 ghost use Rattle.plan.specs.Words.{plan_in};
 ghost use Rattle.plan.specs.Sound.{Few};
 ghost use Rattle.plan.specs.Keys.{Ordered};
-ghost use Rattle.rounds.specs.Layout.{JoinAt, Links, Laid, Alike};
-ghost use Rattle.rounds.specs.Opened.{plan_of, Room, Ample, Roomy, LegsLaid, IsJoined};
+ghost use Rattle.rounds.specs.Layout.{Chains, Laid, Alike, walk_from, is_joined};
+ghost use Rattle.rounds.specs.Opened.{plan_of, Room, Roomy, LegsLaid};
 
+use super::chains::{Chain, chain_by};
 use super::layout::Layout;
 use journey::steps::stays;
 use plan::leg::Leg;
@@ -17,24 +18,31 @@ use plan::walk::Walk;
 // One may stay aboard for the leg `i` from the leg right before it.
 fn is_joined(legs: &[Leg], i: usize) -> bool
     requires within { i < length legs.now }
-    ensures { IsJoined legs.now i result }
+    ensures { result ≡ is_joined legs.now i }
 {
     i > 0 && legs[i].runs() && stays(legs[i - 1], legs[i])
 }
 
-// The legs in the order of their keys, and for each whether one may stay aboard for it. It is one pass, while the leg is
-// at hand.
-fn fill_legs(table: Timetable, keys: &[u64], legs: &mut [Leg], joins: &mut [bool])
+// The legs in the order of their keys.
+fn fill_legs(table: Timetable, keys: &[u64], legs: &mut [Leg])
     requires ordered { Ordered (plan_in table.words.now) keys.now }
     requires few { length (plan_in table.words.now).legs ≤ 65536 }
     requires size { length legs.old ≡ length (plan_in table.words.now).legs }
-    requires joins { length joins.old ≡ length legs.old }
-    ensures legs { LegsLaid (plan_in table.entry.words.now) keys.now legs.new }
-    ensures joins { (i : ℕ) → i < length legs.new → JoinAt legs.new joins.new i }
+    ensures { LegsLaid (plan_in table.entry.words.now) keys.now legs.new }
 {
-    for c in 0..legs.len() {
-        legs[c] = table.leg(place_of(keys[c]));
-        joins[c] = is_joined(legs, c);
+    // By place: of what is written through a `zip` a proof knows nothing afterwards.
+    for (c, leg) in legs.iter_mut().enumerate() {
+        *leg = table.leg(place_of(keys[c]));
+    }
+}
+
+// For each leg, whether one may stay aboard for it.
+fn fill_joins(legs: &[Leg], joins: &mut [bool])
+    requires size { length joins.old ≡ length legs.now }
+    ensures { (i : ℕ) → i < length legs.now → slice_index_or joins.new i false ≡ is_joined legs.now i }
+{
+    for (i, joined) in joins.iter_mut().enumerate() {
+        *joined = is_joined(legs, i);
     }
 }
 
@@ -42,8 +50,8 @@ fn fill_walks(table: Timetable, walks: &mut [Walk])
     requires size { length walks.old ≡ length (plan_in table.words.now).walks }
     ensures { walks.new ≡ (plan_in table.entry.words.now).walks }
 {
-    for j in 0..walks.len() {
-        walks[j] = table.walk(j);
+    for (j, walk) in walks.iter_mut().enumerate() {
+        *walk = table.walk(j);
     }
 }
 
@@ -51,36 +59,19 @@ fn fill_changes(table: Timetable, change: &mut [u64])
     requires size { length change.old ≡ piers (plan_in table.words.now) }
     ensures { change.new ≡ (plan_in table.entry.words.now).change }
 {
-    for pier in 0..change.len() {
-        change[pier] = table.change(pier);
+    for (pier, minutes) in change.iter_mut().enumerate() {
+        *minutes = table.change(pier);
     }
 }
 
-// One more of a pier, the one at `j`, goes to the front of the chain of the pier, so that the chains need no room of
-// their own.
-pub fn put_in_front(first: &mut [u16], link: &mut [u16], pier: usize, j: usize)
-    requires pier { pier < length first.old }
-    requires place { j < length link.old }
-    requires few { j < 65535 }
-    ensures first { first.new ≡ slice_set first.old pier (suc j) }
-    ensures link { link.new ≡ slice_set link.old j (slice_index first.old pier) }
-{
-    link[j] = first[pier];
-    first[pier] = j as u16 + 1;
-}
-
-// Chains the walks of each pier.
+// Chains the walks by the pier they go from.
 fn link_walks(walks: &[Walk], first: &mut [u16], link: &mut [u16])
     requires few { length walks.now < 65536 }
     requires from { (j : ℕ) → j < length walks.now → (slice_index_or walks.now j no_walk).from < length first.old }
     requires size { length link.old ≡ length walks.now }
-    ensures { Links walks.now (length first.new)
-        first.new link.new (length walks.now) }
+    ensures { Chains (walk_from walks.now) (length walks.now) (length first.new) first.new link.new (length walks.now) }
 {
-    first.fill(0);
-    for j in 0..walks.len() {
-        put_in_front(first, link, walks[j].from as usize, j);
-    }
+    chain_by(|j| walks[j].from as usize, first, link);
 }
 
 // Lays the plan out in the lent rows. The keys of its legs are those that the check left in order.
@@ -103,7 +94,8 @@ pub fn lay_out(
     ensures laid { Laid (plan_of legs.new walks.new change.new)
         joins.new first.new link.new }
 {
-    fill_legs(table, keys, legs, joins);
+    fill_legs(table, keys, legs);
+    fill_joins(legs, joins);
     fill_walks(table, walks);
     fill_changes(table, change);
     link_walks(walks, first, link);
@@ -128,8 +120,6 @@ impl<'a> Rows<'a> {
         ensures legs { LegsLaid (plan_in table.entry.words.now) keys.now result.legs.now }
         ensures alike { Alike (plan_in table.entry.words.now)
             (plan_of result.legs.now result.walks.now result.change.now) }
-        ensures laid { Laid (plan_of result.legs.now result.walks.now result.change.now)
-            result.joins.now result.first.now result.link.now }
     {
         let Rows {
             legs,
@@ -144,8 +134,10 @@ impl<'a> Rows<'a> {
             legs,
             joins,
             walks,
-            first,
-            link,
+            outgoing: Chain {
+                last: first,
+                prior: link,
+            },
             change,
         }
     }
@@ -158,8 +150,6 @@ impl<'a> Rows<'a> {
             self.change.now self.first.now self.link.now }
         ensures alike { Alike (plan_in table.entry.words.now)
             (plan_of result.legs.now result.walks.now result.change.now) }
-        ensures laid { Laid (plan_of result.legs.now result.walks.now result.change.now)
-            result.joins.now result.first.now result.link.now }
         ensures few { Few (plan_of result.legs.now result.walks.now result.change.now) }
     {
         let Rows {
@@ -182,20 +172,5 @@ impl<'a> Rows<'a> {
             change: &mut change[0..pier_count],
         };
         fronts.lay_out(table, keys)
-    }
-
-    // The same in rows that any plan fits in which the check takes.
-    pub fn lay_out_within(self, table: Timetable, keys: &[u64]) -> Layout<'a>
-        requires ordered { Ordered (plan_in table.words.now) keys.now }
-        requires few { Few (plan_in table.words.now) }
-        requires ample { Ample self.legs.now self.joins.now self.walks.now self.change.now
-            self.first.now self.link.now }
-        ensures alike { Alike (plan_in table.entry.words.now)
-            (plan_of result.legs.now result.walks.now result.change.now) }
-        ensures laid { Laid (plan_of result.legs.now result.walks.now result.change.now)
-            result.joins.now result.first.now result.link.now }
-        ensures few { Few (plan_of result.legs.now result.walks.now result.change.now) }
-    {
-        self.lay_out_in_front(table, keys)
     }
 }

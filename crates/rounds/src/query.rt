@@ -1,8 +1,9 @@
 // A question in numbers: from, time, to, and the most boats.
-ghost use Rattle.std.specs.Prelude.{◌≡◌, if◌then◌else◌, Some, None, nat_lt};
+ghost use Rattle.std.specs.Prelude.{◌≡◌};
 ghost use Rattle.rounds.specs.Query.{query_checked};
 
 use journey::question::Question;
+use plan::bounds::{TIME_BOUND, below};
 use plan::refusal::Refusal;
 
 // A question, and how many boats its journeys may take.
@@ -12,15 +13,7 @@ pub struct Query {
     pub most: u8,
 }
 
-const TIME_BOUND: u64 = 4294967296;
-
 const MOST_BOATS: u64 = 8;
-
-fn below(n: u64, bound: u64) -> Option<u64>
-    ensures { result ≡ (if nat_lt n bound then Some n else None) }
-{
-    if n < bound { Some(n) } else { None }
-}
 
 // The question that the numbers ask of a plan with so many piers, or the first of them that is wrong. Numbers behind the
 // fourth are not looked at.

@@ -3,13 +3,13 @@ ghost use Rattle.std.specs.Prelude.{◌≡◌, ℕ, ◌+◌, ◌<◌, ◌≤◌,
 ghost use Rattle.plan.specs.Legs.{no_leg, runs, piers};
 ghost use Rattle.marks.specs.Answers.{AnswerOf};
 ghost use Rattle.marks.specs.Fronts.{marks_of};
-ghost use Rattle.rounds.specs.Rows.{plan_of, Lies};
+ghost use Rattle.rounds.specs.Rows.{plan_of};
 ghost use Rattle.rounds.specs.Levels.{AboardFrom, Levels, Sown};
 ghost use Rattle.rounds.specs.Boarding.{Waiting};
 ghost use Rattle.rounds.specs.Answers.{There};
 
 use crate::layout::Layout;
-use crate::steps::{NEVER, last_seed, leg_at, lower, nearer, opens, set_off, walk_at};
+use crate::steps::{NEVER, lower, nearer, opens, set_off};
 use marks::front::Front;
 use marks::mark::Mark;
 
@@ -22,8 +22,7 @@ fn find_candidates(layout: Layout, time: u64, waits: &mut [u16]) -> usize
         (length layout.entry.legs.now) }
 {
     let mut left = 0;
-    for i in 0..layout.legs.len() {
-        let a = leg_at(layout.legs, i);
+    for (i, a) in layout.legs.iter().enumerate() {
         // Written in any case, and kept if it counts: so there is no branch to guess wrong.
         waits[left] = i as u16;
         if a.leaves >= time && a.runs() {
@@ -63,7 +62,6 @@ pub fn go_rounds_until(
     arrived: &mut [u64],
     waits: &mut [u16],
 ) -> Front
-    requires laid { Lies layout }
     requires legs { length layout.legs.now ≤ 65536 }
     requires sown { Sown (plan_of layout) time seed.now }
     requires last { (i : ℕ) → i < length seed.now → slice_index seed.now i ≤ last }
@@ -88,6 +86,7 @@ pub fn go_rounds_until(
     let mut front = set_off(on_foot);
     'rounds: for k in 0..most {
         let mut still = 0;
+        // By place, since the row of those that wait is written while it is gone through.
         'legs: for c in 0..left {
             let i = candidate(waits, c, layout.legs.len());
             if !opens(layout, seed, ready, level, k + 1, i) {
@@ -96,21 +95,19 @@ pub fn go_rounds_until(
                 continue 'legs;
             }
             level[i] = k + 1;
-            let a = leg_at(layout.legs, i);
+            let a = layout.leg(i);
             let pier = a.to as usize;
             // Somebody was there as early, with no more boats: the leg offers nothing new.
             if a.comes >= arrived[pier] {
                 continue 'legs;
             }
             arrived[pier] = a.comes;
-            lower(later, pier, a.comes + layout.change[pier]);
+            lower(later, pier, a.comes + layout.change_at(pier));
             soon = nearer(soon, to, a.to, a.comes);
-            let mut at = layout.first[pier] as usize;
-            'walks: while at != 0 {
-                let w = walk_at(layout.walks, at - 1);
+            'walks: for j in layout.walks_from(pier) {
+                let w = layout.walk(j);
                 lower(later, w.to as usize, a.comes + w.takes);
                 soon = nearer(soon, to, w.to, a.comes + w.takes);
-                at = layout.link[at - 1] as usize;
             }
         }
         // Nobody has boarded, and no seed is for a later round: none will.
@@ -127,49 +124,4 @@ pub fn go_rounds_until(
         left = still;
     }
     front
-}
-
-// The same, where it is not known which seed is the greatest.
-pub fn go_rounds(
-    layout: Layout,
-    seed: &[u8],
-    time: u64,
-    to: u64,
-    on_foot: u64,
-    most: u8,
-    level: &mut [u8],
-    ready: &mut [u64],
-    later: &mut [u64],
-    arrived: &mut [u64],
-    waits: &mut [u16],
-) -> Front
-    requires laid { Lies layout }
-    requires legs { length layout.legs.now ≤ 65536 }
-    requires sown { Sown (plan_of layout) time seed.now }
-    requires few { most ≤ 8 }
-    requires seeds { length seed.now ≡ length layout.legs.now }
-    requires levels { length level.old ≡ length layout.legs.now }
-    requires waits { length waits.old ≡ length layout.legs.now }
-    requires ready { length ready.old ≡ length layout.change.now }
-    requires later { length later.old ≡ length layout.change.now }
-    requires arrived { length arrived.old ≡ length layout.change.now }
-    ensures levels { Levels (AboardFrom (plan_of layout.entry) seed.now) (plan_of layout.entry) most
-        level.new }
-    ensures marks { AnswerOf (There (plan_of layout.entry) seed.now to on_foot) most
-        (marks_of result) }
-{
-    go_rounds_until(
-        layout,
-        seed,
-        last_seed(seed),
-        time,
-        to,
-        on_foot,
-        most,
-        level,
-        ready,
-        later,
-        arrived,
-        waits,
-    )
 }

@@ -2,32 +2,17 @@
 ghost use Rattle.std.specs.Prelude.{◌≡◌, ℕ, ◌-◌, ◌<◌, ◌≤◌, true, false, ◌&&◌, ltb, [], ◌∷◌, length, if◌then◌else◌, Decides, nat_le, nat_lt, slice_index, slice_index_or};
 ghost use Rattle.plan.specs.Legs.{no_leg, no_walk, leg, runs};
 ghost use Rattle.marks.specs.Fronts.{marks_of};
-ghost use Rattle.rounds.specs.Rows.{plan_of, Lies};
+ghost use Rattle.rounds.specs.Rows.{plan_of};
 ghost use Rattle.rounds.specs.Times.{never, Put, Lowered};
 ghost use Rattle.rounds.specs.Boarding.{Opens, ready_for};
 
 use crate::layout::Layout;
 use marks::front::Front;
 use marks::mark::Mark;
-use plan::leg::Leg;
-use plan::walk::Walk;
 
-// Later than any time of a plan, and than any sum of two.
+// Later than any time of a plan, and than any sum of two. A number and no Option: an Option orders nobody before every
+// time, and the earliest is wanted.
 pub(crate) const NEVER: u64 = 1099511627776;
-
-pub fn leg_at(legs: &[Leg], i: usize) -> Leg
-    requires { i < length legs.now }
-    ensures { result ≡ slice_index_or legs.now i no_leg }
-{
-    legs[i]
-}
-
-pub fn walk_at(walks: &[Walk], j: usize) -> Walk
-    requires { j < length walks.now }
-    ensures { result ≡ slice_index_or walks.now j no_walk }
-{
-    walks[j]
-}
 
 // Somebody stays aboard for the leg at `i` from the leg right before it. Where nobody may, the leg itself is looked at:
 // so there is no branch to guess wrong.
@@ -48,13 +33,12 @@ fn is_seeded(seed: u8, boats: u8) -> bool
 }
 
 // Whoever is ready at the pier of the leg at `i` is so in time.
-fn is_in_time(layout: Layout, ready: &[u64], i: usize) -> bool
-    requires laid { Lies layout }
+pub(crate) fn is_in_time(layout: Layout, ready: &[u64], i: usize) -> bool
     requires within { i < length layout.legs.now }
     requires piers { length ready.now ≡ length layout.change.now }
     ensures { result ≡ ready_for ready.now (leg (plan_of layout.entry) i) }
 {
-    let b = leg_at(layout.legs, i);
+    let b = layout.leg(i);
     ready[b.from as usize] <= b.leaves
 }
 
@@ -68,9 +52,8 @@ pub(crate) fn opens(
     boats: u8,
     i: usize,
 ) -> bool
-    requires laid { Lies layout }
     requires within { i < length layout.legs.now }
-    requires going { runs (slice_index_or layout.legs.now i no_leg) ≡ true }
+    requires going { runs (leg (plan_of layout) i) ≡ true }
     requires seeds { length seed.now ≡ length layout.legs.now }
     requires levels { length level.now ≡ length layout.legs.now }
     requires piers { length ready.now ≡ length layout.change.now }
@@ -119,17 +102,4 @@ pub(crate) fn set_off(on_foot: u64) -> Front
     } else {
         Front::empty()
     }
-}
-
-// No seed is greater.
-pub(crate) fn last_seed(seed: &[u8]) -> u8
-    ensures { (i : ℕ) → i < length seed.now → slice_index seed.now i ≤ result }
-{
-    let mut last = 0;
-    for i in 0..seed.len() {
-        if seed[i] > last {
-            last = seed[i];
-        }
-    }
-    last
 }

@@ -11,7 +11,7 @@ use Rattle.rounds.specs.Query.{query_checked}
 use Rattle.rounds.proofs.Alike.{answer_alike}
 use Rattle.itinerary.proofs.SamePlan.{itinerary_alike}
 use Rattle.serving.specs.declared.response.Response.{Response}
-use Rattle.serving.specs.declared.response.Response.TheVariants.{Marks, Updated, Looked, Refused}
+use Rattle.serving.specs.declared.response.Response.TheVariants.{Marks, Updated, Looked}
 use Rattle.serving.specs.Responses.{Itineraries, no_marks, and_mark, Told, AnsweredWith}
 
 module _ {p p₁ : Plan} (a : Alike p p₁) where
@@ -22,21 +22,21 @@ module _ {p p₁ : Plan} (a : Alike p p₁) where
   told_alike : {b : Query} {ms : List Mark} {ns : List ℕ} → Told p₁ b ms ns → Told p b ms ns
   told_alike t = record { answer = answer_alike a t.answer; itineraries = itineraries_alike t.itineraries }
 
-  with_alike : (o : Result Query Refusal) (r : Response) → AnsweredWith o p₁ r → AnsweredWith o p r
+  with_alike : (o : Result Query Refusal) (r : Result Response Refusal) → AnsweredWith o p₁ r → AnsweredWith o p r
   with_alike (Err e) r x = x
-  with_alike (Ok b) (Marks f v) x = told_alike x
-  with_alike (Ok b) Updated x = x
-  with_alike (Ok b) (Looked w) x = x
-  with_alike (Ok b) (Refused e) x = x
+  with_alike (Ok b) (Ok (Marks f v)) x = told_alike x
+  with_alike (Ok b) (Ok Updated) x = x
+  with_alike (Ok b) (Ok (Looked w)) x = x
+  with_alike (Ok b) (Err e) x = x
 
-  answered_with_alike : (qs : List ℕ) (r : Response) → AnsweredWith (query_checked (piers p₁) qs) p₁ r →
+  answered_with_alike : (qs : List ℕ) (r : Result Response Refusal) → AnsweredWith (query_checked (piers p₁) qs) p₁ r →
       AnsweredWith (query_checked (piers p) qs) p r
   answered_with_alike qs r x =
       with_alike (query_checked (piers p) qs) r
       (subst (λ cs. AnsweredWith (query_checked (length cs) qs) p₁ r) a.change x)
 
   -- and so what is made is, if there was memory for it
-  pub made_alike : (qs : List ℕ) (r : Result Response AllocError) →
+  pub made_alike : (qs : List ℕ) (r : Result (Result Response Refusal) AllocError) →
       IfOk r (λ b. AnsweredWith (query_checked (piers p₁) qs) p₁ b) → IfOk r (λ b. AnsweredWith (query_checked (piers p) qs) p b)
   made_alike qs (Ok b) x = answered_with_alike qs b x
   made_alike qs (Err e) x = x

@@ -78,11 +78,6 @@ module _ (p : Plan) (legs : List Leg) (joins : List Bool) (walks : List Walk) (c
     link_long = simp length-take (omega (arith, f.walks));
   }
 
-pub room_same : {p o : Plan} {legs : List Leg} {joins : List Bool} {walks : List Walk} {change first link : List ℕ} → p ≡ o →
-    Room p legs joins walks change first link → Room o legs joins walks change first link
-room_same {legs = legs} {joins = joins} {walks = walks} {change = change} {first = first} {link = link} e r =
-    subst (λ x. Room x legs joins walks change first link) e r
-
 -- the words of an office have room for any plan that may be used
 pub plan_fits : (xs : List ℕ) → Usable xs → plan_end xs ≤ 6979
 plan_fits xs u =

@@ -50,14 +50,14 @@ plan_more p rs i r h is =
 
 -- ---- the responses so far
 
-pub record ServedTo (p : Plan) (rs : List Request) (n : ℕ) (said : List Response) : Type 0 where
+pub record ServedTo (p : Plan) (rs : List Request) (n : ℕ) (said : List (Result Response Refusal)) : Type 0 where
   pub each : length said ≡ n
-  pub right : (i : ℕ) (r : Request) (a : Response) → i < n → get_or rs i r ≡ r → get_or said i a ≡ a → Right (plan_at p rs i) r a
+  pub right : (i : ℕ) (r : Request) (a : Result Response Refusal) → i < n → get_or rs i r ≡ r → get_or said i a ≡ a → Right (plan_at p rs i) r a
 
-pub served_none : (p : Plan) (rs : List Request) (said : List Response) → said ≡ [] → ServedTo p rs 0 said
+pub served_none : (p : Plan) (rs : List Request) (said : List (Result Response Refusal)) → said ≡ [] → ServedTo p rs 0 said
 served_none p rs said e = record { each = ap length e; right = λ i r a h. absurd (omega arith) }
 
-pub served_more : (p : Plan) (rs : List Request) (n : ℕ) (said said₁ : List Response) (r : Request) (a : Response) →
+pub served_more : (p : Plan) (rs : List Request) (n : ℕ) (said said₁ : List (Result Response Refusal)) (r : Request) (a : Result Response Refusal) →
     n < length rs → get_or rs n r ≡ r → Right (plan_at p rs n) r a → said₁ ≡ said ++ a ∷ [] → ServedTo p rs n said → ServedTo p rs (n + 1) said₁
 served_more p rs n said said₁ r a h is good e s = record {
   each = ap length e ∙ length_push said a ∙ ap (λ (k : ℕ). k + 1) s.each;
@@ -65,20 +65,20 @@ served_more p rs n said said₁ r a h is good e s = record {
 }
   where
     P : ℕ → Type 0
-    P i = (x : Request) (b : Response) → get_or rs i x ≡ x → get_or said₁ i b ≡ b → Right (plan_at p rs i) x b
+    P i = (x : Request) (b : Result Response Refusal) → get_or rs i x ≡ x → get_or said₁ i b ≡ b → Right (plan_at p rs i) x b
 
     before : (i : ℕ) → i < n → P i
     before i l x b xs bs =
         s.right i x b l xs
-        (sym (ap (λ (l : List Response). get_or l i b) e ∙ get_or_append_left said (a ∷ []) b i (omega (arith, s.each))) ∙ bs)
+        (sym (ap (λ (l : List (Result Response Refusal)). get_or l i b) e ∙ get_or_append_left said (a ∷ []) b i (omega (arith, s.each))) ∙ bs)
 
     here : P n
     here x b xs bs =
         let same : r ≡ x = sym is ∙ get_or_default rs n r x h ∙ xs in
-        let so : a ≡ b = sym (get_or_push said a b n s.each) ∙ ap (λ (l : List Response). get_or l n b) (sym e) ∙ bs in
-        subst (λ (y : Response). Right (plan_at p rs n) x y) so (subst (λ (y : Request). Right (plan_at p rs n) y a) same good)
+        let so : a ≡ b = sym (get_or_push said a b n s.each) ∙ ap (λ (l : List (Result Response Refusal)). get_or l n b) (sym e) ∙ bs in
+        subst (λ (y : Result Response Refusal). Right (plan_at p rs n) x y) so (subst (λ (y : Request). Right (plan_at p rs n) y a) same good)
 
-pub served_all : (p : Plan) (rs : List Request) (n : ℕ) (said : List Response) → length rs ≤ n → n ≤ length rs →
+pub served_all : (p : Plan) (rs : List Request) (n : ℕ) (said : List (Result Response Refusal)) → length rs ≤ n → n ≤ length rs →
     ServedTo p rs n said → Served p rs said
 served_all p rs n said past within s = record {
   each = omega (arith, s.each);

@@ -11,7 +11,7 @@ use Rattle.rounds.specs.Answers.{Answer}
 use Rattle.itinerary.specs.Order.{Itinerary}
 use Rattle.itinerary.specs.Named.{itinerary_words}
 use Rattle.serving.specs.declared.response.Response.{Response}
-use Rattle.serving.specs.declared.response.Response.TheVariants.{Marks, Updated, Looked, Refused}
+use Rattle.serving.specs.declared.response.Response.TheVariants.{Marks, Updated, Looked}
 
 -- the itinerary for each mark, one behind the other: how many legs, and the run and the number of each
 pub data Itineraries (p : Plan) (q : Question) : List Mark → List ℕ → Type 0 where
@@ -25,9 +25,9 @@ pub record Told (p : Plan) (a : Query) (ms : List Mark) (ns : List ℕ) : Type 0
   pub itineraries : Itineraries p a.question ms ns
 
 -- what is said to a question that was read, or refused
-abbrev pub AnsweredWith : Result Query Refusal → Plan → Response → Type 0
-AnsweredWith (Err e) p r = r ≡ Refused e
-AnsweredWith (Ok a) p (Marks f v) = Told p a (marks_of f) (vec_items v)
-AnsweredWith (Ok a) p Updated = ⊥
-AnsweredWith (Ok a) p (Looked w) = ⊥
-AnsweredWith (Ok a) p (Refused e) = ⊥
+abbrev pub AnsweredWith : Result Query Refusal → Plan → Result Response Refusal → Type 0
+AnsweredWith (Err e) p r = r ≡ Err e
+AnsweredWith (Ok a) p (Ok (Marks f v)) = Told p a (marks_of f) (vec_items v)
+AnsweredWith (Ok a) p (Ok Updated) = ⊥
+AnsweredWith (Ok a) p (Ok (Looked w)) = ⊥
+AnsweredWith (Ok a) p (Err e) = ⊥

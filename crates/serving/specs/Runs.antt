@@ -12,7 +12,7 @@ use Rattle.updates.specs.Still.{given_checked, WordedBy}
 use Rattle.serving.specs.declared.request.Request.{Request}
 use Rattle.serving.specs.declared.request.Request.TheVariants.{Ask, Apply, Look}
 use Rattle.serving.specs.declared.response.Response.{Response}
-use Rattle.serving.specs.declared.response.Response.TheVariants.{Marks, Updated, Looked, Refused}
+use Rattle.serving.specs.declared.response.Response.TheVariants.{Marks, Updated, Looked}
 use Rattle.serving.specs.Responses.{AnsweredWith}
 
 -- ---- the plan at each moment
@@ -53,30 +53,30 @@ plan_next p (Apply u) = if_done (update_checked p u) (after p u) p
 -- ---- what is right to say
 
 -- an update is done, or the first refusal that applies is told
-abbrev pub update_response : Result Unit Refusal → Response
-update_response (Ok _) = Updated
-update_response (Err e) = Refused e
+abbrev pub update_response : Result Unit Refusal → Result Response Refusal
+update_response (Ok _) = Ok Updated
+update_response (Err e) = Err e
 
--- the word on an itinerary that was given
-abbrev pub LookedAt : Plan → List ℕ → Response → Type 0
-LookedAt p gs (Looked w) = WordedBy (given_checked gs) p gs w
-LookedAt p gs (Marks f v) = ⊥
-LookedAt p gs Updated = ⊥
-LookedAt p gs (Refused e) = ⊥
+-- the word on an itinerary that was given, or its refusal
+abbrev pub LookedAt : Plan → List ℕ → Result Response Refusal → Type 0
+LookedAt p gs (Ok (Looked w)) = WordedBy (given_checked gs) p gs (Ok w)
+LookedAt p gs (Ok (Marks f v)) = ⊥
+LookedAt p gs (Ok Updated) = ⊥
+LookedAt p gs (Err e) = WordedBy (given_checked gs) p gs (Err e)
 
 -- by a plan this is the right thing to say to a request
-abbrev pub Right : Plan → Request → Response → Type 0
+abbrev pub Right : Plan → Request → Result Response Refusal → Type 0
 Right p (Ask qs) r = AnsweredWith (query_checked (piers p) (vec_items qs)) p r
 Right p (Apply u) r = r ≡ update_response (update_checked p u)
 Right p (Look gs) r = LookedAt p (vec_items gs) r
 
 -- each request of a list has its response, and each response is right by the plan as it is at that moment
-pub record Served (p : Plan) (requests : List Request) (responses : List Response) : Type 0 where
+pub record Served (p : Plan) (requests : List Request) (responses : List (Result Response Refusal)) : Type 0 where
   pub each : length responses ≡ length requests
-  pub right : (i : ℕ) (r : Request) (a : Response) → i < length requests → slice_index_or requests i r ≡ r → slice_index_or responses i a ≡ a →
+  pub right : (i : ℕ) (r : Request) (a : Result Response Refusal) → i < length requests → slice_index_or requests i r ≡ r → slice_index_or responses i a ≡ a →
       Right (plan_at p requests i) r a
 
 -- what is said of a plan in numbers and of requests to its office: the plan is refused, or the requests are served
-abbrev pub ServedFrom : List ℕ → List Request → Result (Vec Response Global) Refusal → Type 0
+abbrev pub ServedFrom : List ℕ → List Request → Result (Vec (Result Response Refusal) Global) Refusal → Type 0
 ServedFrom xs requests (Err e) = plan_checked xs ≡ Err e
 ServedFrom xs requests (Ok v) = (is_ok (plan_checked xs) ≡ true) × Served (plan_in xs) requests (vec_items v)

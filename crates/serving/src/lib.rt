@@ -2,8 +2,9 @@
 #![tactic(auto)]
 
 mod answering;
-mod indexing;
+mod index;
 pub mod office;
+mod ready;
 pub mod request;
 pub mod response;
 pub mod serve;

@@ -1,6 +1,5 @@
-// What the office says to a request.
+// What the office says to a request that it does not refuse.
 use marks::front::Front;
-use plan::refusal::Refusal;
 use updates::still::Word;
 
 #[derive(Drop)]
@@ -12,5 +11,4 @@ pub enum Response {
     Updated,
     // The word on an itinerary that was given.
     Looked(Word),
-    Refused(Refusal),
 }

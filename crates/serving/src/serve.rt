@@ -8,12 +8,13 @@ use crate::response::Response;
 use plan::refusal::Refusal;
 use std::alloc::{AllocError, Global};
 
-// What the office of the plan says to the requests, in order; or why the plan cannot be used. Only memory can be wanting.
+// What the office of the plan says to the requests, in order; or why the plan cannot be used. A refusal is what is said,
+// and not a failure: only memory can be wanting.
 pub fn serve(
     heap: Global,
     plan: &[u64],
     requests: &[Request],
-) -> Result<Result<Vec<Response>, Refusal>, AllocError>
+) -> Result<Result<Vec<Result<Response, Refusal>>, Refusal>, AllocError>
     ensures { IfOk result (λ o. ServedFrom plan.now requests.now o) }
 {
     match Office::open(plan) {

@@ -1,7 +1,7 @@
 -- Names that are read one after the other.
 use Rattle.std.proofs.Common.{◌≡◌, ℕ, zero, suc, ◌+◌, ◌*◌, ◌<◌, List, [], ◌∷◌, ◌++◌, length, get_or, take, drop, set, sym, refl, ap, ◌∙◌, arith}
 use Rattle.std.proofs.lemmas.List.{get_or-drop, take_more_set, take_all}
-use Rattle.journey.specs.declared.name.LegName.{LegName}
+use Rattle.plan.specs.declared.name.LegName.{LegName}
 use Rattle.updates.specs.Still.{names_in}
 
 -- the name at a place of the pairs

@@ -6,7 +6,8 @@ use Rattle.std.proofs.lemmas.List.{length-map, get_or-map, length_push, get_or_p
 use Rattle.std.proofs.lemmas.Bool.{cases_lt, both_ways, and_from, eq-eqb}
 use Rattle.std.proofs.lemmas.Bool.Decides.{nat_tests}
 use Rattle.plan.specs.declared.leg.Leg.{Leg}
-use Rattle.plan.specs.Legs.{Plan, leg, no_leg, piers, with_legs, leg_within}
+use Rattle.plan.specs.declared.name.LegName.{LegName}
+use Rattle.plan.specs.Legs.{Plan, leg, name, no_leg, piers, with_legs, leg_within}
 use Rattle.plan.specs.Words.{plan_in, written}
 use Rattle.plan.specs.Sound.{LegWithin, Sound, Few, Usable}
 use Rattle.plan.proofs.Laws.{within_leg}
@@ -18,17 +19,18 @@ use Rattle.updates.proofs.Known.{not_known, known_place, without_is}
 use Rattle.updates.proofs.Delays.{leg_in_time}
 
 -- ---- a delay: the names stay, the times stay within their bounds
-named_as : (r k d : ℕ) (a : Leg) → ((delayed_leg r k d a).run ≡ a.run) × ((delayed_leg r k d a).number ≡ a.number)
-named_as r k d a = by (touched r k a)
+named_as : (n : LegName) (d : ℕ) (a : Leg) → ((delayed_leg n d a).run ≡ a.run) × ((delayed_leg n d a).number ≡ a.number)
+named_as n d a = by (touched n a)
   where
     by : (v : Bool) → ((cond v (later d a) a).run ≡ a.run) × ((cond v (later d a) a).number ≡ a.number)
     by true = (refl, refl)
     by false = (refl, refl)
 
-delayed_within : (n r k d : ℕ) (a : Leg) → LegWithin n a → in_time r k d a ≡ true → LegWithin n (delayed_leg r k d a)
-delayed_within n r k d a w t = by (touched r k a) refl
+delayed_within : (s : ℕ) (n : LegName) (d : ℕ) (a : Leg) → LegWithin s a → in_time n d a ≡ true →
+    LegWithin s (delayed_leg n d a)
+delayed_within s n d a w t = by (touched n a) refl
   where
-    by : (v : Bool) → touched r k a ≡ v → LegWithin n (cond v (later d a) a)
+    by : (v : Bool) → touched n a ≡ v → LegWithin s (cond v (later d a) a)
     by true e = record {
       run = w.run;
       number = w.number;
@@ -39,26 +41,26 @@ delayed_within n r k d a w t = by (touched r k a) refl
     }
     by false e = w
 
-sound_delayed : (p : Plan) (r k d : ℕ) → Sound p → update_checked p (Delay r k d) ≡ Ok tt →
-    Sound (after p (Delay r k d))
-sound_delayed p r k d s h = record {
+sound_delayed : (p : Plan) (n : LegName) (d : ℕ) → Sound p → update_checked p (Delay n d) ≡ Ok tt →
+    Sound (after p (Delay n d))
+sound_delayed p n d s h = record {
   legs = λ i l. subst (LegWithin (piers p)) (sym (is i (within i l)))
-      (delayed_within (piers p) r k d (leg p i) (s.legs i (within i l)) (leg_in_time p r k d h i (within i l)));
+      (delayed_within (piers p) n d (leg p i) (s.legs i (within i l)) (leg_in_time p n d h i (within i l)));
   apart = λ i j li lj e f.
       s.apart i j (within i li) (within j lj)
-      (sym (named_as r k d (leg p i)).0 ∙ ap (λ a. a.run) (sym (is i (within i li))) ∙ e ∙ ap (λ a. a.run)
-      (is j (within j lj)) ∙ (named_as r k d (leg p j)).0)
-      (sym (named_as r k d (leg p i)).1 ∙ ap (λ a. a.number) (sym (is i (within i li))) ∙ f ∙ ap (λ a. a.number)
-      (is j (within j lj)) ∙ (named_as r k d (leg p j)).1);
+      (sym (named_as n d (leg p i)).0 ∙ ap (λ a. a.run) (sym (is i (within i li))) ∙ e ∙ ap (λ a. a.run)
+      (is j (within j lj)) ∙ (named_as n d (leg p j)).0)
+      (sym (named_as n d (leg p i)).1 ∙ ap (λ a. a.number) (sym (is i (within i li))) ∙ f ∙ ap (λ a. a.number)
+      (is j (within j lj)) ∙ (named_as n d (leg p j)).1);
   walks = s.walks;
   changes = s.changes;
 }
   where
-    within : (i : ℕ) → i < length (delayed r k d p.legs) → i < length p.legs
-    within i l = omega (arith, length-map p.legs (delayed_leg r k d))
+    within : (i : ℕ) → i < length (delayed n d p.legs) → i < length p.legs
+    within i l = omega (arith, length-map p.legs (delayed_leg n d))
 
-    is : (i : ℕ) → i < length p.legs → get_or (delayed r k d p.legs) i no_leg ≡ delayed_leg r k d (leg p i)
-    is i l = get_or-map (delayed_leg r k d) p.legs i no_leg no_leg l
+    is : (i : ℕ) → i < length p.legs → get_or (delayed n d p.legs) i no_leg ≡ delayed_leg n d (leg p i)
+    is i l = get_or-map (delayed_leg n d) p.legs i no_leg no_leg l
 
 -- ---- a leg is taken out: the others are legs of the plan, each once
 record Stood (ls : List Leg) (i j : ℕ) : Type 0 where
@@ -114,7 +116,7 @@ sound_removed p i s h = record {
 -- ---- a leg more, of a name that is not there
 record FitsIn (p : Plan) (a : Leg) : Type 0 where
   within : leg_within (piers p) a ≡ true
-  new : known a.run a.number p.legs ≡ false
+  new : known (name a) p.legs ≡ false
   few : leb 1024 (length p.legs) ≡ false
 
 fits_in : (p : Plan) (a : Leg) → update_checked p (Extra a) ≡ Ok tt → FitsIn p a
@@ -135,7 +137,7 @@ module _ (p : Plan) (a : Leg) (s : Sound p) (x : FitsIn p a) where
 
   not_there : (i : ℕ) → i < length p.legs → (leg p i).run ≡ a.run → (leg p i).number ≡ a.number → ⊥
   not_there i l e f =
-      both_ways (named a.run a.number (leg p i)) (not_known a.run a.number p.legs x.new i l)
+      both_ways (named (name a) (leg p i)) (not_known (name a) p.legs x.new i l)
       (and_from _ _ (eq-eqb _ _ e) (eq-eqb _ _ f))
 
   added_within : (i : ℕ) → i < length more → LegWithin (piers p) (get_or more i no_leg)
@@ -169,22 +171,22 @@ record Good (p : Plan) : Type 0 where
   few : Few p
   sound : Sound p
 
-known_from : (p : Plan) (r k : ℕ) → update_checked p (Cancel r k) ≡ Ok tt → known r k p.legs ≡ true
-known_from p r k e = grind (arith, nat_tests)
+known_from : (p : Plan) (n : LegName) → update_checked p (Cancel n) ≡ Ok tt → known n p.legs ≡ true
+known_from p n e = grind (arith, nat_tests)
 
 good_after : (p : Plan) (u : Update) → Few p → Sound p → update_checked p u ≡ Ok tt → Good (after p u)
-good_after p (Delay r k d) f s e = record {
+good_after p (Delay n d) f s e = record {
   few = record {
     piers = f.piers;
-    legs = omega (arith, f.legs, length-map p.legs (delayed_leg r k d));
+    legs = omega (arith, f.legs, length-map p.legs (delayed_leg n d));
     walks =
         f.walks;
   };
-  sound = sound_delayed p r k d s e;
+  sound = sound_delayed p n d s e;
 }
-good_after p (Cancel r k) f s e =
-    let x = known_place r k p.legs (known_from p r k e) in
-    let is = without_is p r k x.0 s x.1.0 x.1.1 in
+good_after p (Cancel n) f s e =
+    let x = known_place n p.legs (known_from p n e) in
+    let is = without_is p n x.0 s x.1.0 x.1.1 in
     let n = length-remove p.legs x.0 x.1.0 in
     record {
       few = record { piers = f.piers; legs = omega (arith, f.legs, ap length is); walks = f.walks };

@@ -1,14 +1,14 @@
 -- Whether an itinerary still goes: a pier, a time, a count of legs, and then the run and the number of each.
-use Rattle.std.specs.Prelude.{◌≡◌, ℕ, zero, suc, ◌+◌, ◌*◌, cond, ◌&&◌, ◌⊎◌, List, [], ◌∷◌, length, drop, Ok, Err, Result, nat_le, slice_index}
+use Rattle.std.specs.Prelude.{◌≡◌, ℕ, zero, suc, ◌+◌, ◌*◌, cond, ◌&&◌, ◌⊎◌, List, [], ◌∷◌, length, drop, Ok, Err, IsOkAnd, Result, codes, nat_le, slice_index}
 use Rattle.plan.specs.declared.refusal.Refusal.{Refusal}
 use Rattle.plan.specs.declared.refusal.Refusal.TheVariants.{BadItinerary}
 use Rattle.plan.specs.Legs.{Plan}
 use Rattle.plan.specs.Words.{plan_in}
 use Rattle.plan.specs.Check.{most_legs, then, plan_checked}
-use Rattle.journey.specs.declared.name.LegName.{LegName}
+use Rattle.plan.specs.declared.name.LegName.{LegName}
 use Rattle.journey.specs.Checked.{GoneAlong}
 use Rattle.updates.specs.declared.still.Word.{Word}
-use Rattle.updates.specs.declared.still.Word.TheVariants.{Still, Gone, Refused}
+use Rattle.updates.specs.declared.still.Word.TheVariants.{Still, Gone}
 
 -- every leg of it is in the plan, runs and follows the one before, and the first is reached from the pier at the time;
 -- with no legs it goes
@@ -34,12 +34,18 @@ given_checked gs =
 abbrev pub Said : Word → Type 0 → Type 0
 Said Still P = P
 Said Gone P = P → ⊥
-Said (Refused e) P = ⊥
 
-abbrev pub WordedBy : Result ℕ Refusal → Plan → List ℕ → Word → Type 0
-WordedBy (Err e) p gs w = w ≡ Refused e
-WordedBy (Ok n) p gs w = Said w (StillGoes p (slice_index gs 0) (slice_index gs 1) (names_in n (drop 3 gs)))
+-- the word on an itinerary that has so many legs, or its refusal
+abbrev pub WordedBy : Result ℕ Refusal → Plan → List ℕ → Result Word Refusal → Type 0
+WordedBy (Err e) p gs r = r ≡ Err e
+WordedBy (Ok n) p gs r =
+    IsOkAnd r (λ w. Said w (StillGoes p (slice_index gs 0) (slice_index gs 1) (names_in n (drop 3 gs))))
 
 -- the word on an itinerary, over lent memory: the plan may be refused, then the itinerary
-abbrev pub Worded : List ℕ → List ℕ → Word → Type 0
-Worded xs gs w = WordedBy (then (plan_checked xs) (λ _. given_checked gs)) (plan_in xs) gs w
+abbrev pub Worded : List ℕ → List ℕ → Result Word Refusal → Type 0
+Worded xs gs r = WordedBy (then (plan_checked xs) (λ _. given_checked gs)) (plan_in xs) gs r
+
+-- how it is told
+abbrev pub word_text : Word → List ℕ
+word_text Still = codes "still"
+word_text Gone = codes "gone"

@@ -3,70 +3,70 @@ use Rattle.std.specs.Prelude.{◌≡◌, ℕ, ◌+◌, ◌<◌, Bool, true, fals
 use Rattle.plan.specs.declared.leg.Leg.{Leg}
 use Rattle.plan.specs.declared.refusal.Refusal.{Refusal}
 use Rattle.plan.specs.declared.refusal.Refusal.TheVariants.{Short, BadLeg, TooLate, Taken, Full, NoLeg}
-use Rattle.plan.specs.Legs.{Plan, leg, piers, with_legs, leg_within, time_bound}
+use Rattle.plan.specs.declared.name.LegName.{LegName}
+use Rattle.plan.specs.Legs.{Plan, leg, name, piers, with_legs, leg_within, time_bound}
 use Rattle.plan.specs.Words.{plan_in, words, written}
 use Rattle.plan.specs.Check.{most_legs, first_not, then, plan_checked}
 use Rattle.plan.specs.Sound.{Usable}
-use Rattle.rounds.specs.declared.reply.Reply.{Reply}
-use Rattle.rounds.specs.declared.reply.Reply.TheVariants.{Done, Refused}
+use Rattle.rounds.specs.Entry.{Reply}
 use Rattle.updates.specs.declared.update.Update.{Update}
 use Rattle.updates.specs.declared.update.Update.TheVariants.{Delay, Cancel, Extra}
 
 -- ---- what an update does
 
--- a delay of the run r from the number k on touches the leg
-abbrev pub touched : ℕ → ℕ → Leg → Bool
-touched r k a = a.run == r && nat_le k a.number
+-- a delay from the leg of a name on touches the leg: it is of that run, and no earlier in it
+abbrev pub touched : LegName → Leg → Bool
+touched n a = a.run == n.run && nat_le n.number a.number
 
 -- the leg, d minutes later
 abbrev pub later : ℕ → Leg → Leg
 later d a = record { run = a.run; number = a.number; from = a.from; to = a.to; leaves = a.leaves + d; comes = a.comes + d }
 
 -- each leg that the delay touches is later, the others are as they were
-abbrev pub delayed_leg : ℕ → ℕ → ℕ → Leg → Leg
-delayed_leg r k d a = cond (touched r k a) (later d a) a
+abbrev pub delayed_leg : LegName → ℕ → Leg → Leg
+delayed_leg n d a = cond (touched n a) (later d a) a
 
-abbrev pub delayed : ℕ → ℕ → ℕ → List Leg → List Leg
-delayed r k d ls = map (delayed_leg r k d) ls
+abbrev pub delayed : LegName → ℕ → List Leg → List Leg
+delayed n d ls = map (delayed_leg n d) ls
 
--- the leg has the run r and the number k
-abbrev pub named : ℕ → ℕ → Leg → Bool
-named r k a = a.run == r && a.number == k
+-- the leg has the name
+abbrev pub named : LegName → Leg → Bool
+named n a = a.run == n.run && a.number == n.number
 
--- some leg has them
-unfoldable pub known : ℕ → ℕ → List Leg → Bool
-known r k [] = false
-known r k (a ∷ rest) = named r k a || known r k rest
+-- some leg has it
+unfoldable pub known : LegName → List Leg → Bool
+known n [] = false
+known n (a ∷ rest) = named n a || known n rest
 
--- where the leg that has them stands, if there is one
-abbrev pub Found : Plan → ℕ → ℕ → Option ℕ → Type 0
-Found p r k None = known r k p.legs ≡ false
-Found p r k (Some i) = (i < length p.legs) × (named r k (leg p i) ≡ true)
+-- where the leg that has it stands, if there is one
+abbrev pub Found : Plan → LegName → Option ℕ → Type 0
+Found p n None = known n p.legs ≡ false
+Found p n (Some i) = (i < length p.legs) × (named n (leg p i) ≡ true)
 
--- the legs that have them not
-abbrev pub without : ℕ → ℕ → List Leg → List Leg
-without r k ls = filter (λ a. not (named r k a)) ls
+-- the legs that have it not
+abbrev pub without : LegName → List Leg → List Leg
+without n ls = filter (λ a. not (named n a)) ls
 
 -- the plan after an update that is done
 abbrev pub after : Plan → Update → Plan
-after p (Delay r k d) = with_legs p (delayed r k d p.legs)
-after p (Cancel r k) = with_legs p (without r k p.legs)
+after p (Delay n d) = with_legs p (delayed n d p.legs)
+after p (Cancel n) = with_legs p (without n p.legs)
 after p (Extra a) = with_legs p (p.legs ++ a ∷ [])
 
 -- ---- when it is refused
 
 -- no time of the leg reaches the bound by the delay
-abbrev pub in_time : ℕ → ℕ → ℕ → Leg → Bool
-in_time r k d a = not (touched r k a) || (nat_lt (a.leaves + d) time_bound && nat_lt (a.comes + d) time_bound)
+abbrev pub in_time : LegName → ℕ → Leg → Bool
+in_time n d a = not (touched n a) || (nat_lt (a.leaves + d) time_bound && nat_lt (a.comes + d) time_bound)
 
 -- by the rules alone, whatever room there is: a delay by the first leg that it would make too late; a leg to cancel that
 -- is not there; an extra leg that is out of bounds, or has a name that is taken, or for which there are too many legs
 abbrev pub update_checked : Plan → Update → Result Unit Refusal
-update_checked p (Delay r k d) = first_not (λ i. in_time r k d (leg p i)) TooLate (length p.legs)
-update_checked p (Cancel r k) = cond (known r k p.legs) (Ok tt) (Err (NoLeg k))
+update_checked p (Delay n d) = first_not (λ i. in_time n d (leg p i)) TooLate (length p.legs)
+update_checked p (Cancel n) = cond (known n p.legs) (Ok tt) (Err (NoLeg n.number))
 update_checked p (Extra a) =
     cond (not (leg_within (piers p) a)) (Err (BadLeg (length p.legs)))
-    (cond (known a.run a.number p.legs) (Err (Taken a.number))
+    (cond (known (name a) p.legs) (Err (Taken a.number))
     (cond (nat_le most_legs (length p.legs)) (Err (Full most_legs)) (Ok tt)))
 
 -- and then for want of room, in memory of n numbers: only an extra leg makes a plan longer
@@ -92,8 +92,8 @@ pub record Applied (xs : List ℕ) (u : Update) (r : Result Unit Refusal) (xs₁
 
 -- what the caller is told: why it was refused, or how many legs the plan now has
 abbrev pub told_by : Result Unit Refusal → Plan → Reply
-told_by (Err e) p = Refused e
-told_by (Ok _) p = Done (length p.legs)
+told_by (Err e) p = Err e
+told_by (Ok _) p = Ok (length p.legs)
 
 -- an update of the plan in lent memory: the reply, and the whole memory
 pub record Updated (xs : List ℕ) (u : Update) (r : Reply) (xs₁ : List ℕ) : Type 0 where

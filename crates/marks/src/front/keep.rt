@@ -33,13 +33,7 @@ impl Front {
     pub fn is_covered(&self, mark: Mark) -> bool
         ensures { result ≡ covered mark (marks_of self.now) }
     {
-        let marks = self.marks();
-        for kept in marks {
-            if kept.no_worse(mark) {
-                return true;
-            }
-        }
-        false
+        self.marks().iter().any(|kept| kept.no_worse(mark))
     }
 
     // The row has a place that no mark takes.

@@ -1,19 +1,13 @@
 // The marks of a question in a row that a caller lends.
-ghost use Rattle.std.specs.Prelude.{◌≡◌, length, nat_lt};
+ghost use Rattle.std.specs.Prelude.{◌≡◌};
 ghost use Rattle.marks.specs.Fronts.{marks_of};
-ghost use Rattle.marks.specs.Row.{row_room, row_reply, row_after};
+ghost use Rattle.marks.specs.Row.{row_reply, row_after};
 
 use crate::front::Front;
 use plan::refusal::Refusal;
 
 // The count and nine marks: a row of so many numbers has room for any answer.
 const ROOM: usize = 19;
-
-fn is_short(row: &[u64]) -> bool
-    ensures { result ≡ nat_lt (length row.now) row_room }
-{
-    row.len() < ROOM
-}
 
 impl Front {
     // Writes the count of marks and two numbers a mark, the arrival and the boats; the rest of the row stays. The
@@ -22,12 +16,13 @@ impl Front {
         ensures reply { result ≡ row_reply (marks_of self.now) out.old }
         ensures row { out.new ≡ row_after (marks_of self.now) out.old }
     {
-        if is_short(out) {
+        if out.len() < ROOM {
             return Err(Refusal::ShortRow(out.len() as u64));
         }
         let marks = self.marks();
         let count = marks.len() as u64;
         out[0] = count;
+        // By place: of a row that `chunks_exact_mut` lends a proof knows its length afterwards and nothing of its numbers.
         for (i, mark) in marks.iter().enumerate() {
             out[1 + 2 * i] = mark.arrival;
             out[2 + 2 * i] = mark.boats;

@@ -1,11 +1,12 @@
 // An office is opened with a plan.
 ghost use Rattle.serving.specs.Offices.{Opened};
 
-use crate::office::Office;
+use crate::index::Index;
+use crate::office::{MOST_WORDS, Office};
 use plan::checking::check;
 use plan::refusal::Refusal;
+use plan::timetable::Timetable;
 use plan::writing::copy_plan;
-use rounds::layout::{BLANK_LEG, BLANK_WALK};
 
 impl Office {
     // The office of this plan, if the plan may be used.
@@ -13,22 +14,10 @@ impl Office {
         ensures { Opened plan.now result }
     {
         let _ = check(plan)?;
-        let mut words = [0u64; 6979];
+        let mut words = [0; MOST_WORDS];
         copy_plan(plan, &mut words);
-        let mut office = Office {
-            words,
-            legs: [BLANK_LEG; 1024],
-            joins: [false; 1024],
-            walks: [BLANK_WALK; 256],
-            change: [0; 64],
-            first: [0; 64],
-            link: [0; 256],
-            last_leg: [0; 64],
-            prior_leg: [0; 1024],
-            last_walk: [0; 64],
-            prior_walk: [0; 256],
-        };
-        office.index();
-        Ok(office)
+        let mut index = Index::blank();
+        index.fill(Timetable::of(&words));
+        Ok(Office { words, index })
     }
 }

@@ -1,11 +1,11 @@
-use Rattle.rounds.specs.Rows.{plan_of}
+use Rattle.std.proofs.Common.{◌≡◌, ℕ}
+use Rattle.rounds.specs.Chains.{places}
+use Rattle.rounds.specs.Rows.{places_left}
 use Rattle.itinerary.proofs.Chained.{Missed, ThereAt}
 use Rattle.itinerary.proofs.ways.ends_at.Given as goal
 
-abbrev pub invariant-walks : goal.invariant-walks
-invariant-walks l =
-    Missed (plan_of l.layout).walks (ThereAt (plan_of l.layout).walks l.a.comes l.pier l.time)
-    l.a.to l.at
-
-abbrev pub decreases-walks : goal.decreases-walks
-decreases-walks l = l.at
+abbrev pub invariant-loop-j : goal.invariant-loop-j
+invariant-loop-j l =
+    (past : ℕ)
+    × (places_left l.j-iterator ≡ places l.layout.outgoing.prior.now past)
+    × Missed l.layout.walks.now (ThereAt l.layout.walks.now l.a.comes l.at.pier l.at.time) l.a.to past

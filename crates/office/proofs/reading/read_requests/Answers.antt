@@ -18,9 +18,9 @@ returns-in_default-request_of c =
         (
           refl,
           (
-            c.in-Some.kind,
-            sym c.of.ensures ∙ c.in-Some.is,
-            cut_at c.in-Some.kind bs _ _ at c.size-size.result (take_rest bs (at + 1)) c.size-size.ensures.value
+            c.in-Ok.kind,
+            sym c.try_from.ensures ∙ c.in-Ok.is,
+            cut_at c.in-Ok.kind bs _ _ at c.size-size.result (take_rest bs (at + 1)) c.size-size.ensures.value
                 c.in_ok-numbers.ensures c.in_default-request_of.ensures,
           ),
         ),
@@ -34,7 +34,7 @@ pub loop-at-preserved : goal.loop-at-preserved
 loop-at-preserved c =
     let bs = c.args.bytes.now in
     let at = c.loop-at.at in
-    written_more bs _ _ c.args.start at c.size-size.result c.min.result c.in-Some.kind _ _ c.in-Some-request_of.request
-    c.loop-at-test.true (sym c.of.ensures ∙ c.in-Some.is) (take_rest bs (at + 1)) c.size-size.ensures.value
-    c.in_ok-numbers.ensures c.in-Some-request_of.ensures c.min.ensures c.in_ok-push.ensures.items
+    written_more bs _ _ c.args.start at c.size-size.result c.min.result c.in-Ok.kind _ _ c.in-Some.request
+    c.loop-at-test.true (sym c.try_from.ensures ∙ c.in-Ok.is) (take_rest bs (at + 1)) c.size-size.ensures.value
+    c.in_ok-numbers.ensures c.in-Some.ensures c.min.ensures c.in_ok-push.ensures.items
     c.loop-at.invariant

@@ -3,5 +3,5 @@ use Rattle.std.specs.List.{flat_map}
 use Rattle.office.specs.Texts.{response_text}
 use Rattle.office.proofs.telling.text_of.Given as goal
 
-abbrev pub invariant-loop-response : goal.invariant-loop-response
-invariant-loop-response l = string_bytes l.text ≡ flat_map response_text (take l.response-index l.responses)
+abbrev pub invariant-loop-said : goal.invariant-loop-said
+invariant-loop-said l = string_bytes l.text ≡ flat_map response_text (take l.said-index l.responses)

@@ -11,6 +11,9 @@ returns-in_err-counts c = record {
   keys = keys_same _ _ (sym (ap is_ok c.in_err-counts.ensures));
 }
 
+pub of-requires-clause-few : goal.of-requires-clause-few
+of-requires-clause-few c = (counted c.args.words.now c.in_ok-counts.counts c.in_ok-counts.ensures).few
+
 pub check_parts-requires : goal.check_parts-requires
 check_parts-requires c =
     let n = counted c.args.words.now c.in_ok-counts.counts c.in_ok-counts.ensures in
@@ -22,7 +25,7 @@ returns-in_err-check_parts c =
     let n = counted c.args.words.now c.in_ok-counts.counts c.in_ok-counts.ensures in
     record {
       value = search rules;
-      keys = keys_left c.args.words.now c.args.keys.now c.check_parts.new.keys c.in_ok-counts.counts.legs n.legs
+      keys = keys_left c.args.words.now c.args.keys.now _ c.check_parts.new.keys c.in_ok-counts.counts.legs c.of.ensures n.legs
           (sym (ap is_ok c.in_ok-counts.ensures)) (omega arith) c.check_parts.auto.keys c.check_parts.ensures.ordered c.check_parts.ensures.kept;
     }
 
@@ -32,6 +35,6 @@ returns c =
     let n = counted c.args.words.now c.in_ok-counts.counts c.in_ok-counts.ensures in
     record {
       value = search rules;
-      keys = keys_left c.args.words.now c.args.keys.now c.check_parts.new.keys c.in_ok-counts.counts.legs n.legs
+      keys = keys_left c.args.words.now c.args.keys.now _ c.check_parts.new.keys c.in_ok-counts.counts.legs c.of.ensures n.legs
           (sym (ap is_ok c.in_ok-counts.ensures)) (omega arith) c.check_parts.auto.keys c.check_parts.ensures.ordered c.check_parts.ensures.kept;
     }

@@ -3,5 +3,4 @@ use Rattle.plan.proofs.writing.put_leg.Goals as goal
 
 pub returns : goal.returns
 returns c =
-    leg_put c.args.words.now c.requires.whole c.args.i c.requires.within c.leg_start-start.result
-    c.leg_start-start.ensures.value c.args.leg c.write.new.part c.write.ensures
+    leg_put c.args.words.now c.requires.whole c.args.i c.requires.within c.leg_start-start.result (cc) c.args.leg c.write.new.part c.write.ensures

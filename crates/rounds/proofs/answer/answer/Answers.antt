@@ -1,4 +1,4 @@
-use Rattle.std.proofs.Common.{◌≡◌, ℕ, ◌-◌, ◌≤◌, List, length, take, sym, refl, subst, arith, rules}
+use Rattle.std.proofs.Common.{◌≡◌, true, is_ok, ℕ, ◌≤◌, List, length, take, sym, subst, arith, rules}
 use Rattle.plan.specs.Words.{plan_in}
 use Rattle.plan.specs.Keys.{Ordered}
 use Rattle.plan.specs.Sound.{Usable}
@@ -6,7 +6,8 @@ use Rattle.rounds.proofs.answer.answer.Goals as goal
 
 pub slice_bounds-answer_checked-end : goal.slice_bounds-answer_checked-end
 slice_bounds-answer_checked-end c =
-    let u : Usable c.of-table.result.words.now = subst Usable (sym c.of-table.ensures) (c.in-Ok.ensures.usable refl) in
+    let ok : is_ok c.check_in_order.result ≡ true = search rules in
+    let u : Usable c.of-table.result.words.now = subst Usable (sym c.of-table.ensures) (c.check_in_order.ensures.usable ok) in
     let l : c.legs-legs.result ≤ 1024 = omega (arith, u.few.legs) in
     search rules
 
@@ -15,7 +16,8 @@ answer_checked-requires c =
     let xs = c.of-table.result.words.now in
     let keys = c.check_in_order.new.keys in
     let e = sym c.of-table.ensures in
-    let u : Usable xs = subst Usable e (c.in-Ok.ensures.usable refl) in
-    let o = subst (λ (ys : List ℕ). Ordered (plan_in ys) (take (length (plan_in ys).legs) keys)) e (c.in-Ok.ensures.ordered refl) in
-    let n : length (plan_in xs).legs ≡ c.legs-legs.result - 0 = omega arith in
+    let ok : is_ok c.check_in_order.result ≡ true = search rules in
+    let u : Usable xs = subst Usable e (c.check_in_order.ensures.usable ok) in
+    let o = subst (λ (ys : List ℕ). Ordered (plan_in ys) (take (length (plan_in ys).legs) keys)) e (c.check_in_order.ensures.ordered ok) in
+    let n : length (plan_in xs).legs ≡ c.legs-legs.result = omega arith in
     record { ordered = subst (λ (m : ℕ). Ordered (plan_in xs) (take m keys)) n o; few = u.few }

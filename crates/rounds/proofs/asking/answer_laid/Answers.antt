@@ -5,7 +5,6 @@ use Rattle.rounds.proofs.asking.answer_laid.Goals as goal
 
 pub go_rounds_until-requires : goal.go_rounds_until-requires
 go_rounds_until-requires c = record {
-  laid = c.requires.laid;
   legs = c.requires.legs;
   sown =
       seeds_sown (plan_of c.args.layout) c.args.q c.seed_question.new.seed
@@ -29,7 +28,7 @@ returns c =
     let seed = c.seed_question.new.seed in
     let sow = c.seed_question.ensures.seeds in
     record {
-      answer = seeds_answer p q seed sow c.requires.laid c.requires.asked
+      answer = seeds_answer p q seed sow c.args.layout.laid c.requires.asked
           (c.seed_question.ensures.outset q.to c.requires.asked.to) c.go_rounds_until.ensures.marks;
       levels = seeds_levels p q seed sow c.go_rounds_until.ensures.levels;
     }

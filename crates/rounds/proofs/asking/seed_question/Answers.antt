@@ -10,7 +10,7 @@ returns c =
     let q = c.args.q in
     record {
       seeds = λ i h.
-          let fits = c.requires.laid.legs i h in
+          let fits = c.args.layout.laid.legs i h in
           c.sow.ensures i h
           ∙ ap (λ b. cond {A = ℕ} b 1 0)
           (outset_begins {p = p} q.from q.time c.set_out.new.ready (leg p i) c.set_out.ensures

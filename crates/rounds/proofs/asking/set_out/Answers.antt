@@ -1,27 +1,46 @@
-use Rattle.std.proofs.Common.{◌≡◌, ℕ, suc, ◌-◌, length, replicate, refl, ap, ◌∙◌, arith}
+use Rattle.std.proofs.Common.{length, replicate, refl, ap, ◌∙◌, subst, arith}
 use Rattle.rounds.specs.Times.{never}
+use Rattle.rounds.specs.Rows.{places_left}
 use Rattle.rounds.specs.Layout.{walk_from}
-use Rattle.rounds.proofs.Linking.{chains_of, chain_at, walk_at, chain_next}
-use Rattle.rounds.proofs.Cells.{gone_more}
+use Rattle.rounds.proofs.Linking.{chain_next, chain_step, chain_end}
+use Rattle.rounds.proofs.Cells.{Gone, gone_none, gone_more}
 use Rattle.rounds.proofs.Questions.{outset_all}
 use Rattle.rounds.proofs.asking.set_out.Goals as goal
 
-pub walks-preserved : goal.walks-preserved
-walks-preserved c =
-    let (ok, long, cells) = c.walks.invariant in
-    let chain = c.requires.laid.chained in
-    let v : ℕ = c.walks.at - 1 in
-    let here : suc v ≡ c.walks.at = omega arith in
-    let w = c.walk_at-w.result in
-    let is = c.walk_at-w.ensures in
-    let low = c.lower-in-walks.ensures in (
-      walk_at (chain_next (walk_from c.args.layout.walks.now) (chains_of chain) v here (chain_at ok)),
+pub walk-w-requires : goal.walk-w-requires
+walk-w-requires c =
+    let (at, left, ok, long, cells) = c.loop-j.invariant in
+    let laid = c.args.layout.laid in
+    let (here, rest) = chain_step (walk_from c.args.layout.walks.now) laid.chained laid.link_long ok left c.in-Some.ensures.steps in
+    omega (arith, ok.within)
+
+pub loop-j-init : goal.loop-j-init
+loop-j-init c =
+    let laid = c.args.layout.laid in
+    let begun = ap places_left c.into_iter-j-iterator.ensures.into_iter_gives ∙ c.walks_from-j-items.ensures in
+    (_, begun, laid.chained.first_at c.args.q.from (omega arith), refl, λ d h. gone_none laid.chained)
+
+pub loop-j-preserved : goal.loop-j-preserved
+loop-j-preserved c =
+    let (at, left, ok, long, cells) = c.loop-j.invariant in
+    let laid = c.args.layout.laid in
+    let (here, rest) = chain_step (walk_from c.args.layout.walks.now) laid.chained laid.link_long ok left c.in-Some.ensures.steps in
+    let j = c.in-Some.j in
+    let w = c.walk-w.result in
+    let is = c.walk-w.ensures.value in
+    let low = c.lower-in-loop-j.ensures in (
+      _,
+      rest,
+      chain_next (walk_from c.args.layout.walks.now) laid.chained j here ok,
       low.long ∙ long,
-      λ d h. gone_more chain v w is here ok (cells d h) (low.cells d (omega arith)),
+      λ d h. gone_more laid.chained j w is here ok (cells d h) (low.cells d (omega arith)),
     )
 
 pub returns : goal.returns
 returns c =
-    let (ok, long, cells) = c.walks.invariant in
+    let (at, left, ok, long, cells) = c.loop-j.invariant in
+    let laid = c.args.layout.laid in
     let blank = c.fill.ensures.after (λ y e. e) ∙ ap (λ n. replicate n never) c.requires.piers in
-    outset_all c.walks.ready (length c.args.layout.change.now) refl blank c.lower.ensures (omega arith) cells
+    let done = chain_end (walk_from c.args.layout.walks.now) laid.chained laid.link_long ok left c.in-None.ensures.steps.0 in
+    outset_all c.loop-j.ready (length c.args.layout.change.now) refl blank c.lower.ensures (omega arith)
+    (λ d h. subst (Gone c.args.layout.walks.now c.args.q.from c.args.q.time d _ _) done (cells d h))

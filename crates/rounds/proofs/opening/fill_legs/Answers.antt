@@ -5,7 +5,7 @@ use Rattle.plan.specs.Check.{sound_words}
 use Rattle.plan.proofs.Laws.{sound_plan}
 use Rattle.rounds.proofs.Ordering.{keys_long, place_within, legs_laid}
 use Rattle.rounds.specs.Opened.{place_at}
-use Rattle.rounds.proofs.Laying.{row_more, joins_kept, joins_more}
+use Rattle.rounds.proofs.Laying.{row_more}
 use Rattle.rounds.proofs.opening.fill_legs.Goals as goal
 
 pub bounds-keys-c : goal.bounds-keys-c
@@ -22,21 +22,13 @@ leg-requires c =
 
 pub loop-c-preserved : goal.loop-c-preserved
 loop-c-preserved c =
-    let (legs, joins) = c.loop-c.invariant in
     let p = plan_in c.args.table.words.now in
-    let i = c.loop-c.c in
-    let is = c.leg.ensures.value ∙ ap (leg p) c.place_of.ensures in (
-      row_more no_leg _ (λ m. leg p (place_at c.args.keys.now m)) _ i (omega arith) legs is,
-      joins_more i c.is_joined.result (omega arith) c.is_joined.ensures (joins_kept c.leg.result i joins),
-    )
+    row_more no_leg _ (λ m. leg p (place_at c.args.keys.now m)) _ c.loop-c.c (omega arith) c.loop-c.invariant
+    (c.leg.ensures.value ∙ ap (leg p) c.place_of.ensures)
 
 pub returns : goal.returns
 returns c =
     let p = plan_in c.args.table.words.now in
     let checked : sound_words c.args.table.words.now ≡ true = search rules in
-    let (legs, joins) = c.loop-c.invariant in
-    record {
-      legs = legs_laid p c.args.keys.now c.requires.few c.requires.ordered (sound_plan _ checked) _ (omega arith)
-          (λ m h. legs m (omega arith));
-      joins = λ m h. joins m (omega arith);
-    }
+    legs_laid p c.args.keys.now c.requires.few c.requires.ordered (sound_plan _ checked) _ (omega arith)
+    (λ m h. c.loop-c.invariant m (omega arith))

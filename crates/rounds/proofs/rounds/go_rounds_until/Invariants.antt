@@ -1,7 +1,8 @@
 use Rattle.std.proofs.Common.{◌≡◌, ℕ, ◌<◌, length, get_or}
 use Rattle.marks.specs.Fronts.{marks_of}
-use Rattle.rounds.specs.Layout.{WalkAt}
-use Rattle.rounds.specs.Rows.{plan_of}
+use Rattle.rounds.specs.Layout.{ChainAt, walk_from}
+use Rattle.rounds.specs.Chains.{places}
+use Rattle.rounds.specs.Rows.{plan_of, places_left}
 use Rattle.rounds.proofs.Cells.{Gone}
 use Rattle.rounds.proofs.Thinning.{Passed, next_of}
 use Rattle.rounds.proofs.Nesting.{Rounded}
@@ -20,11 +21,10 @@ invariant-legs l =
 
 abbrev pub invariant-walks : goal.invariant-walks
 invariant-walks l =
-    WalkAt (plan_of l.layout).walks l.a.to l.at
+    (at : ℕ)
+    × (places_left l.j-iterator ≡ places l.layout.outgoing.prior.now at)
+    × ChainAt (walk_from l.layout.walks.now) (length l.layout.walks.now) l.a.to at
     × (length l.later ≡ length l.initial.later)
     × ((d : ℕ) → d < length l.initial.later →
-    Gone l.layout.walks.now l.a.to l.a.comes d (get_or l.initial.later d 0) (get_or l.later d 0) l.at)
-    × Gone (plan_of l.layout).walks l.a.to l.a.comes l.to l.initial.soon l.soon l.at
-
-abbrev pub decreases-walks : goal.decreases-walks
-decreases-walks l = l.at
+    Gone l.layout.walks.now l.a.to l.a.comes d (get_or l.initial.later d 0) (get_or l.later d 0) at)
+    × Gone (plan_of l.layout).walks l.a.to l.a.comes l.to l.initial.soon l.soon at

@@ -1,20 +1,15 @@
-use Rattle.std.proofs.Common.{sym, ap, ◌∙◌}
-use Rattle.marks.specs.Marks.{covered}
-use Rattle.marks.proofs.Marks.{covered_skip, covered_stop, covered_end}
+use Rattle.std.proofs.Common.{◌∙◌, rules, tests}
+use Rattle.std.proofs.lemmas.Iterator.{YieldsList-from_slice}
+use Rattle.std.proofs.lemmas.Iterator.Search.{any_from_yields_List}
+use Rattle.marks.specs.Marks.{no_worse}
+use Rattle.marks.specs.Fronts.{marks_of}
+use Rattle.marks.proofs.Marks.{covered_any}
 use Rattle.marks.proofs.front.Front.is_covered.Goals as goal
-
-pub returns-then-no_worse : goal.returns-then-no_worse
-returns-then-no_worse c =
-    let better = sym c.if-no_worse.ensures in
-    sym (covered_stop _ _ c.loop-kept.kept-index _ _ c.loop-kept-test.true c.loop-kept.invariant better)
-    ∙ ap (covered c.args.mark) c.marks-marks.ensures.value
-
-pub loop-kept-preserved : goal.loop-kept-preserved
-loop-kept-preserved c =
-    let worse = sym c.if-no_worse.ensures in
-    covered_skip _ _ c.loop-kept.kept-index _ _ c.loop-kept-test.true c.loop-kept.invariant worse
 
 pub returns : goal.returns
 returns c =
-    sym (covered_end _ _ c.loop-kept.kept-index _ c.loop-kept-test.false c.loop-kept.invariant)
-    ∙ ap (covered c.args.mark) c.marks-marks.ensures.value
+    let m = c.args.mark in
+    let ms = marks_of c.args.self.now in
+    any_from_yields_List (λ n. no_worse n m) _ _ c.any.result c.any.ensures.ran
+    (YieldsList-from_slice ms (c.iter.ensures.rest ∙ c.marks.ensures.value)) (λ x b q k. search (rules, tests))
+    ∙ covered_any m ms

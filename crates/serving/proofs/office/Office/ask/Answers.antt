@@ -1,19 +1,23 @@
-use Rattle.std.proofs.Common.{sym, subst}
-use Rattle.plan.specs.Legs.{Plan}
-use Rattle.itinerary.specs.Arrivals.{Arriving}
+use Rattle.std.proofs.Common.{ℕ, List, sym, subst}
+use Rattle.plan.specs.Sound.{Usable}
+use Rattle.plan.specs.Words.{plan_in}
+use Rattle.plan.proofs.Laws.{usable}
+use Rattle.rounds.specs.Layout.{Alike}
+use Rattle.rounds.specs.Rows.{plan_of}
+use Rattle.serving.specs.Kept.{Lays}
 use Rattle.serving.proofs.Alike.{made_alike}
 use Rattle.serving.proofs.office.Office.ask.Goals as goal
 
-pub layout-requires : goal.layout-requires
-layout-requires c = record { kept = c.requires.kept.laid }
-
-pub respond-requires : goal.respond-requires
-respond-requires c = record {
-  laid = c.layout.ensures.laid;
-  arriving = subst (λ (p : Plan). Arriving p c.arrivals.result) (sym c.layout.ensures.front) c.arrivals.ensures;
-  few = c.layout.ensures.few;
-  once = c.layout.ensures.once;
-}
+pub ready-requires : goal.ready-requires
+ready-requires c =
+    let self = c.args.self.now in
+    record {
+      usable = subst Usable (sym c.table.ensures) (usable self.words self.usable);
+      kept = subst (λ (xs : List ℕ). Lays (plan_in xs) self.index) (sym c.table.ensures) self.kept;
+    }
 
 pub returns : goal.returns
-returns c = made_alike c.layout.ensures.alike c.args.question.now c.respond.result c.respond.ensures
+returns c =
+    made_alike
+    (subst (λ (xs : List ℕ). Alike (plan_in xs) (plan_of c.ready.result.layout)) c.table.ensures c.ready.ensures)
+    c.args.question.now c.respond.result c.respond.ensures

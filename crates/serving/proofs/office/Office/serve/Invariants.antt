@@ -1,5 +1,5 @@
 use Rattle.std.proofs.Common.{◌≡◌, vec_items}
-use Rattle.serving.specs.Offices.{plan_kept, KeptIn}
+use Rattle.serving.specs.Offices.{plan_kept}
 use Rattle.serving.specs.Runs.{plan_at}
 use Rattle.serving.proofs.Runs.{ServedTo}
 use Rattle.serving.proofs.office.Office.serve.Given as goal
@@ -8,5 +8,4 @@ use Rattle.serving.proofs.office.Office.serve.Given as goal
 abbrev pub invariant-loop-request : goal.invariant-loop-request
 invariant-loop-request l =
     (plan_kept l.self ≡ plan_at (plan_kept l.initial.self) l.requests l.request-index)
-    × KeptIn l.self
     × ServedTo (plan_kept l.initial.self) l.requests l.request-index (vec_items l.responses)

@@ -1,4 +1,0 @@
-use Rattle.itinerary_trials.proofs.trying.Tried.+go_on.Given as goal
-
-abbrev pub decreases-go_on : goal.decreases-go_on
-decreases-go_on l = l.others

@@ -1,0 +1,4 @@
+pub mod Words
+pub mod Piers
+pub mod Marks
+pub mod Tried

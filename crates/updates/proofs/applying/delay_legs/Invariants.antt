@@ -1,5 +1,0 @@
-use Rattle.updates.proofs.Delays.{Halfway}
-use Rattle.updates.proofs.applying.delay_legs.Given as goal
-
-abbrev pub invariant-loop-i : goal.invariant-loop-i
-invariant-loop-i l = Halfway l.run l.number l.minutes l.initial.plan l.i l.plan

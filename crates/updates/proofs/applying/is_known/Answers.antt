@@ -1,6 +1,0 @@
-use Rattle.std.proofs.Common.{rules}
-use Rattle.updates.proofs.Known.{found_known}
-use Rattle.updates.proofs.applying.is_known.Goals as goal
-
-pub returns : goal.returns
-returns c = search (rules, found_known)
