@@ -1,18 +1,7 @@
 -- Numbers of a file, one by one.
 use Rattle.std.proofs.Common.{◌≡◌, ℕ, zero, suc, ◌+◌, ◌*◌, ◌<◌, min, List, [], ◌∷◌, ◌++◌, length, get_or, take, drop, sym, refl, ap, ◌∙◌, arith}
-use Rattle.std.proofs.lemmas.List.{get_or-drop, get_or_append_left}
+use Rattle.std.proofs.lemmas.List.{get_or_append_left}
 use Rattle.files.specs.Numbers.{number_at, numbers_in}
-
--- a number of what is left of a file
-pub number_drop : (b at : ℕ) (bs : List ℕ) → number_at (drop b bs) at ≡ number_at bs (b + at)
-number_drop b at bs =
-    let one : b + (at + 1) ≡ b + at + 1 = omega arith in
-    let two : b + (at + 2) ≡ b + at + 2 = omega arith in
-    let three : b + (at + 3) ≡ b + at + 3 = omega arith in
-    let read : (k : ℕ) → get_or (drop b bs) k 0 ≡ get_or bs (b + k) 0 = λ k. get_or-drop b bs k 0 in
-    λ i.
-    read at i + (read (at + 1) ∙ ap (λ k. get_or bs k 0) one) i * 256 + (read (at + 2) ∙ ap (λ k. get_or bs k 0) two) i * 65536
-    + (read (at + 3) ∙ ap (λ k. get_or bs k 0) three) i * 16777216
 
 -- the number that four bytes write down, whatever stands behind them
 pub number_front : (xs ys : List ℕ) → length xs ≡ 4 → number_at (xs ++ ys) 0 ≡ number_at xs 0

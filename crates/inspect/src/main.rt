@@ -27,11 +27,12 @@ lead to the pier). docs/FORMAT.md has the file.
 ";
 
 // Checks all journeys that stand in the file from a byte on.
-fn check_all(rt: &HostRuntime, words: &[u64], bytes: &[u8], start: usize) -> anyhow::Result<()>
-    requires whole { Whole words.now }
-    requires sound { sound_words words.now ≡ true }
-{
-    let table = Timetable::of(words);
+fn check_all(
+    rt: &HostRuntime,
+    table: Timetable<'_>,
+    bytes: &[u8],
+    start: usize,
+) -> anyhow::Result<()> {
     let mut at = start;
     // By place, since a journey that is cut short is told by its byte.
     while at < bytes.len() {
@@ -51,7 +52,7 @@ fn main(rt: HostRuntime) -> anyhow::Result<()> {
         return Ok(());
     };
     match open_plan(rt.alloc(), &bytes)? {
-        Ok(words) => check_all(&rt, &words, &bytes, 4 * words.len()),
+        Ok(words) => check_all(&rt, Timetable::of(&words), &bytes, 4 * words.len()),
         Err(refusal) => {
             rt.println(refusal)?;
             Ok(())

@@ -14,6 +14,7 @@ ghost use Rattle.itinerary.specs.Named.{Written, Named, NamedBy, JourneyNamed};
 use crate::arrivals::chain_arrivals;
 use crate::search::Search;
 use crate::telling::name_legs;
+use journey::question::Question;
 use marks::mark::Mark;
 use plan::bounds::{MOST_LEGS, MOST_PIERS, MOST_WALKS};
 use plan::checking::check_in_order;
@@ -44,6 +45,42 @@ impl Search<'_> {
     }
 }
 
+// The same, where it is not known yet what comes to each pier.
+pub fn write_journey<'a>(
+    layout: Layout<'a>,
+    level: &'a [u8],
+    q: Question,
+    mark: Mark,
+    out: &mut [u64],
+) -> u64
+    requires few { Few (plan_of layout) }
+    requires once { NamedOnce layout.legs.now }
+    requires asked { Asked (plan_of layout) q }
+    requires levels { length level.now ≡ length layout.legs.now }
+    requires marked { Marked (plan_of layout) q level.now mark }
+    requires room { 2049 ≤ length out.old }
+    ensures { Written (plan_of layout.entry) q mark out.old result out.new }
+{
+    let mut last_leg = [0u16; MOST_PIERS];
+    let mut prior_leg = [0u16; MOST_LEGS];
+    let mut last_walk = [0u16; MOST_PIERS];
+    let mut prior_walk = [0u16; MOST_WALKS];
+    let arrivals = chain_arrivals(
+        layout,
+        &mut last_leg,
+        &mut prior_leg,
+        &mut last_walk,
+        &mut prior_walk,
+    );
+    let search = Search {
+        layout,
+        arrivals,
+        question: q,
+        level,
+    };
+    search.write_journey(mark, out)
+}
+
 // The itinerary for a mark, over a plan that is laid out, with working rows on the stack. The question is answered first:
 // that says whether the mark is one of the answer's, and leaves the levels that the legs are traced by.
 fn name_journey(layout: Layout, query: Query, mark: Mark, out: &mut [u64]) -> Result<u64, Refusal>
@@ -61,23 +98,8 @@ fn name_journey(layout: Layout, query: Query, mark: Mark, out: &mut [u64]) -> Re
     if !front.marks().contains(&mark) {
         return Err(Refusal::NoMark(mark.boats));
     }
-    let mut last_leg = [0u16; MOST_PIERS];
-    let mut prior_leg = [0u16; MOST_LEGS];
-    let mut last_walk = [0u16; MOST_PIERS];
-    let mut prior_walk = [0u16; MOST_WALKS];
-    let search = Search {
-        layout,
-        arrivals: chain_arrivals(
-            layout,
-            &mut last_leg,
-            &mut prior_leg,
-            &mut last_walk,
-            &mut prior_walk,
-        ),
-        question: query.question,
-        level: work.levels(layout.legs.len()),
-    };
-    Ok(search.write_journey(mark, out))
+    let level = work.levels(layout.legs.len());
+    Ok(write_journey(layout, level, query.question, mark, out))
 }
 
 // The itinerary for a mark, over a plan that was laid out before: nothing of the plan is checked again.
@@ -97,7 +119,7 @@ pub fn journey_opened(
 }
 
 // The itinerary for a mark, over a checked plan: lays it out in rows on the stack. The rows are its own, since the check
-// covers no struct that owns rows and lends several of them at once.
+// covers no struct that owns rows and lends a layout of them to be written.
 fn journey_checked(
     table: Timetable,
     keys: &[u64],

@@ -1,16 +1,13 @@
 -- What still goes is a journey of the plan as it is, and nothing else does.
-use Rattle.std.proofs.Common.{◌≡◌, ℕ, List, [], ◌∷◌, map, sym, refl, ◌∙◌, subst, inl, inr, arith}
+use Rattle.std.proofs.Common.{◌≡◌, ℕ, List, ◌∷◌, sym, ◌∙◌, subst, inl, inr, arith}
 use Rattle.plan.specs.declared.leg.Leg.{Leg}
-use Rattle.plan.specs.Legs.{Plan, name}
+use Rattle.plan.specs.Legs.{Plan}
 use Rattle.plan.specs.declared.name.LegName.{LegName}
-use Rattle.journey.specs.declared.question.Question.{Question}
 use Rattle.journey.specs.Journeys.{Journey}
 use Rattle.journey.specs.Journeys.Reached.{by_legs}
 use Rattle.journey.specs.Checked.{GoneAlong}
-use Rattle.itinerary.specs.Order.{Reaching}
-use Rattle.itinerary.specs.Order.Reaching.{on_foot_alone, by_legs_there}
 use Rattle.updates.specs.Still.{StillGoes}
-use Rattle.laws.specs.UpdateLaws.{StillAJourney, StillExact, ToldGoes}
+use Rattle.laws.specs.UpdateLaws.{StillAJourney, StillExact}
 use Rattle.laws.proofs.OneVerdict.{legs_same, legs_known}
 
 -- with a name there is a leg to go
@@ -47,11 +44,3 @@ still_exact p s t names first rest once now = (back, λ j. inr (first, (rest, re
         let known = legs_known g.made in
         let same = legs_same p.legs once (a ∷ xs) (first ∷ rest) known now.known (sym g.named ∙ now.named) in
         same_journey p s t a first xs rest same g.made
-
-reaching_goes : (p : Plan) (q : Question) (u k : ℕ) (legs : List Leg) → Reaching p q u k legs →
-    StillGoes p q.from q.time (map name legs)
-reaching_goes p q u k [] (on_foot_alone e) = inl refl
-reaching_goes p q u k (a ∷ xs) (by_legs_there j e is) = inr (a, (xs, record { made = j; named = refl }))
-
-pub told_goes : ToldGoes
-told_goes p q u k legs i = reaching_goes p q u k legs i.reaching

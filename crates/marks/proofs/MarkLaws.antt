@@ -1,11 +1,7 @@
 -- The laws of marks and answers.
 use Rattle.marks.specs.declared.mark.Mark.{Mark}
-use Rattle.marks.specs.MarkLaws.{NoWorseOrder, OneAnswer, FewerBoats}
-use Rattle.marks.proofs.Marks.{no_worse_refl, no_worse_trans, no_worse_antisym}
+use Rattle.marks.specs.MarkLaws.{OneAnswer, FewerBoats}
 use Rattle.marks.proofs.Answers.{answers_same, answer_fewer, up_to_beginning}
-
-pub no_worse_order : NoWorseOrder
-no_worse_order = (no_worse_refl, no_worse_trans, no_worse_antisym)
 
 pub one_answer : (R : Mark → Type 0) → OneAnswer R
 one_answer R most ms ns a b = answers_same a b

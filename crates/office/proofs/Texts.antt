@@ -1,5 +1,5 @@
 -- The lines of the office, one by one.
-use Rattle.std.proofs.Common.{◌≡◌, ℕ, zero, suc, ◌+◌, ◌-◌, ◌*◌, ◌/◌, ◌<◌, ◌≤◌, true, List, [], ◌∷◌, ◌++◌, length, get_or, take, drop, Result, sym, refl, ap, ◌∙◌, append_assoc, append-nil, arith, length-take}
+use Rattle.std.proofs.Common.{◌≡◌, ℕ, zero, suc, ◌+◌, ◌-◌, ◌*◌, ◌/◌, ◌<◌, ◌≤◌, true, List, [], ◌∷◌, ◌++◌, length, get_or, take, drop, sym, refl, ap, ◌∙◌, append_assoc, append-nil, arith, length-take}
 use Rattle.std.proofs.Output.{has_written_of_eq, has_written_append}
 use Rattle.std.proofs.lemmas.List.{flat_map_more, take_more, take_all, get_or_append_left}
 use Rattle.std.specs.Fmt.{IsPlainFormatter, HasWritten}
@@ -7,10 +7,8 @@ use Rattle.std.specs.List.{flat_map}
 use Rattle.std.specs.declared.fmt.Formatter.{Formatter}
 use Rattle.plan.specs.Names.{name_text}
 use Rattle.plan.specs.declared.name.LegName.{LegName}
-use Rattle.plan.specs.declared.refusal.Refusal.{Refusal}
 use Rattle.updates.specs.Still.{names_in}
-use Rattle.serving.specs.declared.response.Response.{Response}
-use Rattle.office.specs.Texts.{feed, next_text, names_text, legs_in, itineraries_text, response_text}
+use Rattle.office.specs.Texts.{feed, next_text, names_text, legs_in, itineraries_text}
 
 -- what was written, and what a call that went well then wrote, is the text
 pub put_next : {W : Type 0} (took : W → List ℕ → W → Type 0) (e f g : Formatter W) {a b text : List ℕ} →
@@ -121,10 +119,3 @@ lines_first count ns =
     ap (λ k. itineraries_text k ns) z
 
 -- ---- responses
-
-pub responses_more : (rs : List (Result Response Refusal)) (i : ℕ) (r : Result Response Refusal) (before one after : List ℕ) → i < length rs → r ≡ get_or rs i r →
-    before ≡ flat_map response_text (take i rs) → one ≡ response_text r → after ≡ before ++ one →
-    after ≡ flat_map response_text (take (i + 1) rs)
-responses_more rs i r before one after h is so told put =
-    put ∙ (λ j. so j ++ told j) ∙ flat_map_more response_text [] (take i rs) r
-    ∙ ap (flat_map response_text) (ap (λ (x : Result Response Refusal). take i rs ++ x ∷ []) is ∙ sym (take_more rs i r h))

@@ -1,5 +1,5 @@
 -- The steps of a loop that looks for the first of something.
-use Rattle.std.proofs.Common.{◌≡◌, ℕ, zero, suc, ◌+◌, ◌<◌, Bool, true, false, cond, ◌&&◌, [], ◌∷◌, map, is_ok, Ok, Err, Result, sym, refl, ap, ◌∙◌, inl, inr, add-one, arith}
+use Rattle.std.proofs.Common.{◌≡◌, ℕ, zero, suc, ◌+◌, ◌<◌, Bool, true, false, cond, ◌&&◌, [], ◌∷◌, map, is_ok, Ok, Err, Result, sym, refl, ap, ◌∙◌, inl, inr, arith}
 use Rattle.std.proofs.lemmas.Bool.{cases_eq, and_parts, and_from}
 use Rattle.std.proofs.Math.Bool.{and-true}
 use Rattle.std.specs.List.{list_all, range_with_len}
@@ -39,13 +39,6 @@ pub all_below_range : (f : ℕ → Bool) (n : ℕ) → list_all f (range_with_le
 all_below_range f n = sym (list_all-map (λ b. b) f (range_with_len 0 n)) ∙ all_below_map f n
 
 -- ---- the first number below n that fails
-pub first_not_none : (f : ℕ → Bool) (e : ℕ → Refusal) → first_not f e 0 ≡ Ok tt
-unfolding first_not
-first_not_none f e = refl
-
-pub first_not_more : (f : ℕ → Bool) (e : ℕ → Refusal) (n : ℕ) → first_not f e n ≡ Ok tt → f n ≡ true → first_not f e (n + 1) ≡ Ok tt
-unfolding first_not
-first_not_more f e n p q = rw (add-one, p, q)
 
 pub first_not_hit : (f : ℕ → Bool) (e : ℕ → Refusal) (i n : ℕ) → i < n → first_not f e i ≡ Ok tt → f i ≡ false → first_not f e n ≡ Err (e i)
 unfolding first_not

@@ -50,7 +50,8 @@ pub fn check_each<F: Fn(usize) -> bool, R: Fn(u16) -> Refusal>(
     requires refusal { (k : ℕ) → k < n → R.pre refusal k }
     ensures { (f : ℕ → Bool) (e : ℕ → Refusal) → AnswersAs (F.post is_sound) f n → AnswersAs (R.post refusal) e n → result ≡ first_not f e n }
 {
-    // A `for`, since `find` asks that its closure may be called at any number, and the test only may below `n`.
+    // A `for`: of the test in a closure for `find` it would be asked that it may be called with any number, and it may
+    // only with those below `n`.
     for i in 0..n {
         if !is_sound(i) {
             return Err(refusal(i as u16));

@@ -1,4 +1,4 @@
-// Where the parts of a plan lie in the words that hold it, and how they are read. Only this file knows offsets.
+// Where the parts of a plan lie in the words that hold it, and how they are read.
 #![tactic(auto, using(crate::proofs::Parts::parts))]
 
 ghost use Rattle.std.specs.Prelude.{◌≡◌, ◌+◌, ◌*◌, ◌<◌, ◌≤◌, length, slice_set};

@@ -35,8 +35,8 @@ pub fn marks_opened(layout: Layout, question: &[u64]) -> Result<Front, Refusal>
     requires few { Few (plan_of layout) }
     ensures { MarkedBy (query_checked (piers (plan_of layout.entry)) question.now) (plan_of layout.entry) result }
 {
-    let asked = read_query(layout.change.len(), question)?;
-    Ok(ask(layout, asked))
+    let query = read_query(layout.change.len(), question)?;
+    Ok(ask(layout, query))
 }
 
 // The same, written into the lent row.
@@ -45,12 +45,11 @@ pub fn answer_opened(layout: Layout, question: &[u64], out: &mut [u64]) -> Resul
     ensures { AnsweredBy (query_checked (piers (plan_of layout.entry)) question.now)
         (plan_of layout.entry) out.old result out.new }
 {
-    let query = read_query(layout.change.len(), question)?;
-    ask(layout, query).write(out)
+    marks_opened(layout, question)?.write(out)
 }
 
 // The answer to a question about a checked plan of at most so many legs: lays it out in rows on the stack, and asks. The
-// rows are its own, since the check covers no struct that owns rows and lends several of them at once.
+// rows are its own, since the check covers no struct that owns rows and lends a layout of them to be written.
 fn answer_in_rows<const LEGS: usize>(
     table: Timetable,
     keys: &[u64],

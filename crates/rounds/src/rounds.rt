@@ -9,7 +9,7 @@ ghost use Rattle.rounds.specs.Boarding.{Waiting};
 ghost use Rattle.rounds.specs.Answers.{There};
 
 use crate::layout::Layout;
-use crate::steps::{NEVER, lower, nearer, opens, set_off};
+use crate::steps::{NEVER, last_seed, lower, nearer, opens, set_off};
 use marks::front::Front;
 use marks::mark::Mark;
 
@@ -124,4 +124,48 @@ pub fn go_rounds_until(
         left = still;
     }
     front
+}
+
+// The same, where it is not known which seed is the greatest.
+pub fn go_rounds(
+    layout: Layout,
+    seed: &[u8],
+    time: u64,
+    to: u64,
+    on_foot: u64,
+    most: u8,
+    level: &mut [u8],
+    ready: &mut [u64],
+    later: &mut [u64],
+    arrived: &mut [u64],
+    waits: &mut [u16],
+) -> Front
+    requires legs { length layout.legs.now ≤ 65536 }
+    requires sown { Sown (plan_of layout) time seed.now }
+    requires few { most ≤ 8 }
+    requires seeds { length seed.now ≡ length layout.legs.now }
+    requires levels { length level.old ≡ length layout.legs.now }
+    requires waits { length waits.old ≡ length layout.legs.now }
+    requires ready { length ready.old ≡ length layout.change.now }
+    requires later { length later.old ≡ length layout.change.now }
+    requires arrived { length arrived.old ≡ length layout.change.now }
+    ensures levels { Levels (AboardFrom (plan_of layout.entry) seed.now) (plan_of layout.entry) most
+        level.new }
+    ensures marks { AnswerOf (There (plan_of layout.entry) seed.now to on_foot) most
+        (marks_of result) }
+{
+    go_rounds_until(
+        layout,
+        seed,
+        last_seed(seed),
+        time,
+        to,
+        on_foot,
+        most,
+        level,
+        ready,
+        later,
+        arrived,
+        waits,
+    )
 }

@@ -103,3 +103,14 @@ pub(crate) fn set_off(on_foot: u64) -> Front
         Front::empty()
     }
 }
+
+// No seed is greater.
+pub(crate) fn last_seed(seed: &[u8]) -> u8
+    ensures { (i : ℕ) → i < length seed.now → slice_index seed.now i ≤ result }
+{
+    let mut last = 0;
+    for boats in seed {
+        last = last.max(*boats);
+    }
+    last
+}

@@ -1,9 +1,8 @@
 -- The chains of what comes to each pier, at the fronts of rows.
-use Rattle.std.proofs.Common.{◌≡◌, ℕ, ◌<◌, ◌≤◌, List, ◌++◌, length, take, get_or, subst, arith, length-take}
+use Rattle.std.proofs.Common.{◌≡◌, ℕ, ◌<◌, ◌≤◌, List, length, take, get_or, subst, arith, length-take}
 use Rattle.rounds.specs.Chains.{Falls}
 use Rattle.rounds.specs.Layout.{Chains}
 use Rattle.rounds.proofs.Linking.{chain_falls, chain_within}
-use Rattle.serving.proofs.Fronts.{front_is}
 
 -- for things of any kind in a row, by the pier that the thing at a place comes to
 module _ {A : Type 0} (to : List A → ℕ → ℕ) (row : List A) where
@@ -15,19 +14,6 @@ module _ {A : Type 0} (to : List A → ℕ → ℕ) (row : List A) where
       subst (λ y. Chains (to (take n row)) (length (take n row)) y (take k last) (take n prior) (length (take n row))) ex
       (subst (λ y. Chains (to (take n row)) (length (take n row)) y (take y last) (take n prior) (length (take n row))) ek
       (subst (λ y. Chains (to (take y row)) (length (take y row)) s (take s last) (take y prior) (length (take y row))) en c))
-
-  -- chains as they stand at the fronts of longer rows
-  pub chains_front : (more : List A) (last ls prior ps : List ℕ) (m s : ℕ) → length row ≡ m → length last ≡ s → length prior ≡ m →
-      Chains (to row) (length row) (length last) last prior (length row) →
-      Chains (to (take m (row ++ more))) (length (take m (row ++ more))) s (take s (last ++ ls)) (take m (prior ++ ps))
-      (length (take m (row ++ more)))
-  chains_front more last ls prior ps m s er es em c =
-      subst (λ x. Chains (to (take m (row ++ more))) (length (take m (row ++ more))) s (take s (last ++ ls)) x
-      (length (take m (row ++ more)))) (front_is m prior ps em)
-      (subst (λ x. Chains (to (take m (row ++ more))) (length (take m (row ++ more))) s x prior (length (take m (row ++ more))))
-      (front_is s last ls es)
-      (subst (λ x. Chains (to (take m (row ++ more))) (length (take m (row ++ more))) x last prior (length (take m (row ++ more)))) es
-      (subst (λ x. Chains (to x) (length x) (length last) last prior (length x)) (front_is m row more er) c)))
 
 -- a chain cut from longer rows, for as many piers as the plan has
 pub record ChainCut (to : ℕ → ℕ) (n n_piers : ℕ) (last prior : List ℕ) : Type 0 where

@@ -13,8 +13,8 @@ returns-then-not-contains c =
     not_told (omega arith) (marks_of c.answer-front.result) c.answer-front.ensures.answer
     (λ i. let found = told.1 i in search rules) refl refl
 
-pub invariant_of-search-clause-levels : goal.invariant_of-search-clause-levels
-invariant_of-search-clause-levels c = c.levels.ensures.long
+pub write_journey-requires-clause-levels : goal.write_journey-requires-clause-levels
+write_journey-requires-clause-levels c = c.levels-level.ensures.long
 
 pub write_journey-requires-clause-marked : goal.write_journey-requires-clause-marked
 write_journey-requires-clause-marked c =
@@ -25,7 +25,7 @@ write_journey-requires-clause-marked c =
       most = c.args.query.most;
       marks = marks_of c.answer-front.result;
       levels =
-          subst (Levels (Aboard p q.from q.time) p c.args.query.most) (sym c.levels.ensures.value) c.answer-front.ensures.levels;
+          subst (Levels (Aboard p q.from q.time) p c.args.query.most) (sym c.levels-level.ensures.value) c.answer-front.ensures.levels;
       answer = c.answer-front.ensures.answer;
       among = told.0 (search rules);
     }

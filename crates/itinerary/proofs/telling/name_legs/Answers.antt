@@ -1,6 +1,6 @@
-use Rattle.std.proofs.Common.{◌≤◌, length, get_or, refl, arith, length-set}
+use Rattle.std.proofs.Common.{length, get_or, refl, arith, length-set}
 use Rattle.plan.specs.Legs.{no_leg}
-use Rattle.itinerary.proofs.Writing.{legs_row_none, legs_row_more, legs_row_all}
+use Rattle.itinerary.proofs.Writing.{legs_row_none, legs_row_more}
 use Rattle.itinerary.proofs.telling.name_legs.Goals as goal
 
 pub loop-j-init : goal.loop-j-init
@@ -14,9 +14,3 @@ loop-j-preserved c =
     legs_row_more (λ i. get_or c.args.legs.now i no_leg) (length c.args.places.now) c.args.places.now _
     c.loop-j.out c.loop-j.j
     c.loop-j.invariant c.loop-j-test.true (omega arith) _ refl
-
-pub returns : goal.returns
-returns c =
-    let past : length c.args.places.now ≤ c.loop-j.j = omega arith in
-    legs_row_all (λ i. get_or c.args.legs.now i no_leg) c.args.places.now c.args.out.now c.loop-j.out
-    c.loop-j.j (omega arith) past c.loop-j.invariant

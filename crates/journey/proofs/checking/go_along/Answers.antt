@@ -20,9 +20,6 @@ loop-i-init c =
     trail_one (plan_in c.args.table.words.now) c.args.at.pier c.args.at.time c.args.legs.now
     (sound_plan _ c.args.table.sound) c.in_ok-last.last c.requires (sym c.first_leg.ensures ∙ some)
 
-pub next_leg-requires : goal.next_leg-requires
-next_leg-requires c = c.loop-i.invariant.within
-
 pub returns-in_err-next : goal.returns-in_err-next
 returns-in_err-next c =
     let p = plan_in c.args.table.words.now in

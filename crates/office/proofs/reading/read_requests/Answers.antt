@@ -1,34 +1,10 @@
-use Rattle.std.proofs.Common.{◌+◌, sym, refl, ◌∙◌, rules}
+use Rattle.std.proofs.Common.{◌+◌, sym, ◌∙◌}
 use Rattle.std.proofs.lemmas.List.{take_rest}
-use Rattle.office.proofs.Requests.{cut_at, written_none, written_more}
+use Rattle.office.proofs.Requests.{written_none, written_more}
 use Rattle.office.proofs.reading.read_requests.Goals as goal
 
 pub loop-at-init : goal.loop-at-init
 loop-at-init c = written_none c.args.bytes.now c.args.start _ c.new-all.ensures.items
-
-pub returns-in_default-request_of : goal.returns-in_default-request_of
-returns-in_default-request_of c =
-    let bs = c.args.bytes.now in
-    let at = c.loop-at.at in
-    record {
-      place = at;
-      written = c.loop-at.invariant;
-      stops = (
-        c.loop-at-test.true,
-        (
-          refl,
-          (
-            c.in-Ok.kind,
-            sym c.try_from.ensures ∙ c.in-Ok.is,
-            cut_at c.in-Ok.kind bs _ _ at c.size-size.result (take_rest bs (at + 1)) c.size-size.ensures.value
-                c.in_ok-numbers.ensures c.in_default-request_of.ensures,
-          ),
-        ),
-      );
-    }
-
-pub overflow_mul-size : goal.overflow_mul-size
-overflow_mul-size c = search rules
 
 pub loop-at-preserved : goal.loop-at-preserved
 loop-at-preserved c =

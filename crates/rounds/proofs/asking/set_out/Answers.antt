@@ -1,9 +1,8 @@
 use Rattle.std.proofs.Common.{length, replicate, refl, ap, ◌∙◌, subst, arith}
 use Rattle.rounds.specs.Times.{never}
-use Rattle.rounds.specs.Rows.{places_left}
 use Rattle.rounds.specs.Layout.{walk_from}
 use Rattle.rounds.proofs.Linking.{chain_next, chain_step, chain_end}
-use Rattle.rounds.proofs.Cells.{Gone, gone_none, gone_more}
+use Rattle.rounds.proofs.Cells.{Gone, gone_more}
 use Rattle.rounds.proofs.Questions.{outset_all}
 use Rattle.rounds.proofs.asking.set_out.Goals as goal
 
@@ -13,12 +12,6 @@ walk-w-requires c =
     let laid = c.args.layout.laid in
     let (here, rest) = chain_step (walk_from c.args.layout.walks.now) laid.chained laid.link_long ok left c.in-Some.ensures.steps in
     omega (arith, ok.within)
-
-pub loop-j-init : goal.loop-j-init
-loop-j-init c =
-    let laid = c.args.layout.laid in
-    let begun = ap places_left c.into_iter-j-iterator.ensures.into_iter_gives ∙ c.walks_from-j-items.ensures in
-    (_, begun, laid.chained.first_at c.args.q.from (omega arith), refl, λ d h. gone_none laid.chained)
 
 pub loop-j-preserved : goal.loop-j-preserved
 loop-j-preserved c =

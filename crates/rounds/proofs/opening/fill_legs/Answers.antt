@@ -1,11 +1,8 @@
-use Rattle.std.proofs.Common.{◌≡◌, true, ap, ◌∙◌, arith, rules}
-use Rattle.plan.specs.Legs.{no_leg, leg}
+use Rattle.std.proofs.Common.{◌≡◌, true, arith, rules}
 use Rattle.plan.specs.Words.{plan_in}
 use Rattle.plan.specs.Check.{sound_words}
 use Rattle.plan.proofs.Laws.{sound_plan}
 use Rattle.rounds.proofs.Ordering.{keys_long, place_within, legs_laid}
-use Rattle.rounds.specs.Opened.{place_at}
-use Rattle.rounds.proofs.Laying.{row_more}
 use Rattle.rounds.proofs.opening.fill_legs.Goals as goal
 
 pub bounds-keys-c : goal.bounds-keys-c
@@ -19,12 +16,6 @@ leg-requires c =
     let n = keys_long p c.args.keys.now c.requires.few c.requires.ordered in
     let w = place_within p c.args.keys.now c.requires.few c.requires.ordered c.loop-c.c (omega arith) in
     omega arith
-
-pub loop-c-preserved : goal.loop-c-preserved
-loop-c-preserved c =
-    let p = plan_in c.args.table.words.now in
-    row_more no_leg _ (λ m. leg p (place_at c.args.keys.now m)) _ c.loop-c.c (omega arith) c.loop-c.invariant
-    (c.leg.ensures.value ∙ ap (leg p) c.place_of.ensures)
 
 pub returns : goal.returns
 returns c =

@@ -1,6 +1,6 @@
 use Rattle.std.proofs.Common.{◌+◌, ◌-◌, ◌*◌, vec_items, refl, ◌∙◌, arith, rules}
 use Rattle.itinerary.proofs.Writing.{among_at}
-use Rattle.serving.proofs.Itineraries.{written_room, itineraries_none, itineraries_more, itineraries_all}
+use Rattle.serving.proofs.Itineraries.{written_room, itineraries_none, itineraries_more}
 use Rattle.serving.proofs.answering.name_marks.Goals as goal
 
 pub loop-mark-init : goal.loop-mark-init
@@ -28,6 +28,3 @@ loop-mark-preserved c = (
       (1 + 2 * c.write_journey-count.result - 0) (omega arith) refl c.loop-mark.invariant.1 (omega arith)
       c.in_ok-extend_from_slice.ensures.items,
 )
-
-pub returns : goal.returns
-returns c = itineraries_all c.args.marks.now c.loop-mark.mark-index _ (omega arith) c.loop-mark.invariant.1

@@ -1,6 +1,6 @@
-use Rattle.std.proofs.Common.{◌≡◌, ◌<◌, length, sym, ◌∙◌, arith}
+use Rattle.std.proofs.Common.{◌<◌, length, sym, ◌∙◌, arith}
 use Rattle.plan.specs.Words.{plan_in}
-use Rattle.updates.proofs.Delays.{delay_none, half_whole, half_within, half_leg, delay_skip, delay_more, delay_all, times_within}
+use Rattle.updates.proofs.Delays.{delay_none, half_whole, half_within, half_leg, delay_skip, delay_more, times_within}
 use Rattle.updates.proofs.delaying.delay_legs.Goals as goal
 use Rattle.updates.proofs.delaying.delay_legs.Goals.{then-is_touched, else-is_touched}
 
@@ -56,9 +56,3 @@ loop-i-preserved c =
           c.loop-i.invariant below c.leg_at-leg.result c.leg_at-leg.ensures
           (sym w.if-is_touched.ensures)
     ]
-
-pub returns : goal.returns
-returns c =
-    let all : c.loop-i.i ≡ length (plan_in c.args.plan.now).legs = omega (arith, c.requires.legs) in
-    delay_all c.args.from c.args.minutes c.args.plan.now c.loop-i.i c.loop-i.plan
-    all c.loop-i.invariant

@@ -1,5 +1,5 @@
 use Rattle.std.proofs.Common.{rules}
-use Rattle.updates.proofs.Names.{names_none, names_more, names_all}
+use Rattle.updates.proofs.Names.{names_none, names_more}
 use Rattle.updates.proofs.still.read_names.Goals as goal
 
 pub loop-i-init : goal.loop-i-init
@@ -7,6 +7,3 @@ loop-i-init c = names_none c.args.names.now c.args.pairs.now
 
 pub loop-i-preserved : goal.loop-i-preserved
 loop-i-preserved c = search (rules, names_more)
-
-pub returns : goal.returns
-returns c = search (rules, names_all)

@@ -21,18 +21,6 @@ back-init c =
       tracing = tracing_none c.requires.marked (length row) row refl c.requires.room last;
     }
 
-pub overflow_sub-at : goal.overflow_sub-at
-overflow_sub-at c = let g = going_at c.back.invariant.tracing c.in-Some.is in omega (arith, g.space)
-
-pub overflow_cast-row : goal.overflow_cast-row
-overflow_cast-row c =
-    let h = (going_at c.back.invariant.tracing c.in-Some.is).within in
-    let few = c.args.self.few.legs in
-    search rules
-
-pub bounds-row-at : goal.bounds-row-at
-bounds-row-at c = let h = (going_at c.back.invariant.tracing c.in-Some.is).space in search rules
-
 pub step_back-next-requires : goal.step_back-next-requires
 step_back-next-requires c = (going_at c.back.invariant.tracing c.in-Some.is).within
 

@@ -17,8 +17,3 @@ pub returns-then-has_room : goal.returns-then-has_room
 returns-then-has_room c =
     c.falls_to.ensures ∙ ap (λ b. b && falls c.in-Some.last.now c.args.mark) c.if-has_room.ensures
     ∙ sym (by_last (goal.at.returns-then-has_room c).In-Some)
-
-pub returns-else-has_room : goal.returns-else-has_room
-returns-else-has_room c =
-    c.if-has_room.false ∙ ap (λ b. b && falls c.in-Some.last.now c.args.mark) c.if-has_room.ensures
-    ∙ sym (by_last (goal.at.returns-else-has_room c).In-Some)

@@ -1,14 +1,7 @@
-use Rattle.std.proofs.Common.{[], refl, arith}
-use Rattle.std.proofs.Output.{writes_in_calls_nil, has_written_of_eq}
-use Rattle.office.proofs.Texts.{put_next, lines_first, lines_next, lines_all}
+use Rattle.std.proofs.Common.{refl, arith}
+use Rattle.std.proofs.Output.{has_written_of_eq}
+use Rattle.office.proofs.Texts.{put_next, lines_next, lines_all}
 use Rattle.office.proofs.telling.ItinerariesDisplay.fmt.Goals as goal
-
-pub loop-i-init : goal.loop-i-init
-loop-i-init g c = (
-  [],
-  (λ plain. record { wrote = writes_in_calls_nil g.W.Write.write_str_gives _; plain = plain }),
-  lines_first c.args.self.now.count c.args.self.now.numbers.now,
-)
 
 pub loop-i-preserved : goal.loop-i-preserved
 loop-i-preserved g c =

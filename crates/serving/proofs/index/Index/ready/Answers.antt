@@ -2,82 +2,11 @@ use Rattle.std.proofs.Common.{◌≡◌, ◌-◌, length, take, arith, length-ta
 use Rattle.plan.specs.Legs.{piers}
 use Rattle.plan.specs.Words.{plan_in}
 use Rattle.journey.proofs.Naming.{sound_once}
-use Rattle.rounds.specs.Layout.{walk_from}
-use Rattle.rounds.proofs.Linking.{chain_falls, chain_within}
 use Rattle.itinerary.specs.Arrivals.{leg_to, walk_to}
 use Rattle.itinerary.proofs.SamePlan.{named_once_alike}
 use Rattle.serving.proofs.Chained.{chain_cut}
 use Rattle.serving.proofs.Fronts.{kept_cut}
 use Rattle.serving.proofs.index.Index.ready.Goals as goal
-
-pub invariant_of-outgoing : goal.invariant_of-outgoing
-invariant_of-outgoing c =
-    let self = c.args.self.now in
-    let p = plan_in c.args.table.words.now in
-    let f = c.requires.usable.few in
-    let n = c.legs-legs.result - 0 in
-    let w = c.walks-walks.result - 0 in
-    let s = c.piers-piers.result - 0 in
-    let legs : length p.legs ≡ n = omega (arith, c.legs-legs.ensures) in
-    let walks : length p.walks ≡ w = omega (arith, c.walks-walks.ensures) in
-    let many : piers p ≡ s = omega (arith, c.piers-piers.ensures) in
-    let cut = kept_cut p self.legs self.joins self.walks self.change self.first self.link f c.requires.kept.laid n w s legs walks many in
-    record {
-      falls = chain_falls (walk_from (take w self.walks)) cut.laid.chained cut.laid.link_long;
-      within = chain_within (walk_from (take w self.walks)) cut.laid.chained cut.laid.link_long cut.laid.first_long;
-    }
-
-pub invariant_of-layout : goal.invariant_of-layout
-invariant_of-layout c =
-    let self = c.args.self.now in
-    let p = plan_in c.args.table.words.now in
-    let f = c.requires.usable.few in
-    let n = c.legs-legs.result - 0 in
-    let w = c.walks-walks.result - 0 in
-    let s = c.piers-piers.result - 0 in
-    let legs : length p.legs ≡ n = omega (arith, c.legs-legs.ensures) in
-    let walks : length p.walks ≡ w = omega (arith, c.walks-walks.ensures) in
-    let many : piers p ≡ s = omega (arith, c.piers-piers.ensures) in
-    let cut = kept_cut p self.legs self.joins self.walks self.change self.first self.link f c.requires.kept.laid n w s legs walks many in
-    record { laid = cut.laid }
-
-pub invariant_of-coming_legs : goal.invariant_of-coming_legs
-invariant_of-coming_legs c =
-    let self = c.args.self.now in
-    let p = plan_in c.args.table.words.now in
-    let f = c.requires.usable.few in
-    let n = c.legs-legs.result - 0 in
-    let w = c.walks-walks.result - 0 in
-    let s = c.piers-piers.result - 0 in
-    let legs : length p.legs ≡ n = omega (arith, c.legs-legs.ensures) in
-    let walks : length p.walks ≡ w = omega (arith, c.walks-walks.ensures) in
-    let many : piers p ≡ s = omega (arith, c.piers-piers.ensures) in
-    let ec : length self.change ≡ 64 = search rules in
-    let el : length self.last_leg ≡ 64 = search rules in
-    let ep : length self.prior_leg ≡ 1024 = search rules in
-    let same : s ≡ length (take s self.change) = simp length-take (omega (arith, f.piers, many)) in
-    let coming = chain_cut leg_to self.legs self.last_leg self.prior_leg (length p.legs) (piers p) n s _ legs many same
-    (omega (arith, f.legs, self.long_legs)) (omega (arith, f.legs)) (omega (arith, f.piers)) c.requires.kept.coming.of_legs in
-    record { falls = coming.falls; within = coming.within }
-
-pub invariant_of-coming_walks : goal.invariant_of-coming_walks
-invariant_of-coming_walks c =
-    let self = c.args.self.now in
-    let p = plan_in c.args.table.words.now in
-    let f = c.requires.usable.few in
-    let n = c.legs-legs.result - 0 in
-    let w = c.walks-walks.result - 0 in
-    let s = c.piers-piers.result - 0 in
-    let legs : length p.legs ≡ n = omega (arith, c.legs-legs.ensures) in
-    let walks : length p.walks ≡ w = omega (arith, c.walks-walks.ensures) in
-    let many : piers p ≡ s = omega (arith, c.piers-piers.ensures) in
-    let ec : length self.change ≡ 64 = search rules in
-    let ew : length self.last_walk ≡ 64 = search rules in
-    let ek : length self.prior_walk ≡ 256 = search rules in
-    let same : s ≡ length (take s self.change) = simp length-take (omega (arith, f.piers, many)) in
-    let coming = chain_cut walk_to self.walks self.last_walk self.prior_walk (length p.walks) (piers p) w s _ walks many same
-    (omega (arith, f.walks, self.long_walks)) (omega (arith, f.walks)) (omega (arith, f.piers)) c.requires.kept.coming.of_walks in
-    record { falls = coming.falls; within = coming.within }
 
 pub invariant_of-result : goal.invariant_of-result
 invariant_of-result c =
@@ -109,17 +38,3 @@ invariant_of-result c =
       few = cut.few;
       once = named_once_alike cut.alike (sound_once c.requires.usable.sound);
     }
-
-pub returns : goal.returns
-returns c =
-    let self = c.args.self.now in
-    let p = plan_in c.args.table.words.now in
-    let f = c.requires.usable.few in
-    let n = c.legs-legs.result - 0 in
-    let w = c.walks-walks.result - 0 in
-    let s = c.piers-piers.result - 0 in
-    let legs : length p.legs ≡ n = omega (arith, c.legs-legs.ensures) in
-    let walks : length p.walks ≡ w = omega (arith, c.walks-walks.ensures) in
-    let many : piers p ≡ s = omega (arith, c.piers-piers.ensures) in
-    let cut = kept_cut p self.legs self.joins self.walks self.change self.first self.link f c.requires.kept.laid n w s legs walks many in
-    cut.alike

@@ -1,7 +1,6 @@
 use Rattle.std.proofs.Common.{◌≡◌, ℕ, List, length, Result, sym, ap, ◌∙◌, subst, rules}
 use Rattle.plan.specs.declared.refusal.Refusal.{Refusal}
 use Rattle.plan.specs.Words.{plan_in}
-use Rattle.plan.specs.Sound.{Few}
 use Rattle.plan.proofs.Laws.{usable, usable_opens, not_refused}
 use Rattle.updates.specs.Updates.{after}
 use Rattle.serving.specs.Kept.{Lays}
@@ -16,10 +15,6 @@ pub of-requires : goal.of-requires
 of-requires c =
     let u = c.apply_checked.ensures.usable in
     record { whole = u.whole; sound = usable_opens c.apply_checked.new.plan u }
-
-pub fill-requires : goal.fill-requires
-fill-requires c =
-    record { few = subst (λ (xs : List ℕ). Few (plan_in xs)) (sym c.of.ensures) c.apply_checked.ensures.usable.few }
 
 -- refused: the words are as they were
 pub invariant_of-self : goal.invariant_of-self
