@@ -5,3 +5,4 @@ pub mod Laws
 pub mod ReadBack
 pub mod LegWords
 pub mod Written
+pub mod Shuffled
