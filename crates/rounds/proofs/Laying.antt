@@ -1,5 +1,5 @@
 -- The rows that were filled lay the plan out.
-use Rattle.std.proofs.Common.{◌≡◌, ℕ, suc, ◌+◌, ◌-◌, ◌<◌, ◌≤◌, Bool, true, false, List, length, get_or, set, sym, ap, ◌∙◌, subst, inl, inr, ⊎_elim, arith}
+use Rattle.std.proofs.Common.{◌≡◌, ℕ, suc, ◌+◌, ◌-◌, ◌<◌, ◌≤◌, Bool, true, false, ◌&&◌, nat_lt, List, length, get_or, set, sym, ap, ◌∙◌, subst, inl, inr, ⊎_elim, arith}
 use Rattle.std.proofs.lemmas.List.{same_lists, get_or_default, get_or-set_same, get_or-set_other}
 use Rattle.std.proofs.lemmas.Bool.{cases_lt, cases_order, and_parts, and_from, ltb-true, lt-ltb}
 use Rattle.std.proofs.lemmas.Bool.Decides.{nat_tests}
@@ -39,6 +39,15 @@ walks_from {p} {ws} {n} s is many j h =
     omega (arith, w.from)
 
 -- ---- a leg behind them changes no join
+pub joins_kept : (legs : List Leg) (joins : List Bool) (a : Leg) (c : ℕ) → ((m : ℕ) → m < c → get_or joins m false ≡ is_joined legs m) →
+    (m : ℕ) → m < c → get_or joins m false ≡ is_joined (set legs c a) m
+joins_kept legs joins a c before m h =
+    before m h
+    ∙ sym (ap (λ (x : Leg). nat_lt 0 m && (runs (get_or (set legs c a) m no_leg) && stays x (get_or (set legs c a) m no_leg))) (other (m - 1) (omega arith))
+    ∙ ap (λ (y : Leg). nat_lt 0 m && (runs y && stays (get_or legs (m - 1) no_leg) y)) (other m h))
+  where
+    other : (i : ℕ) → i < c → get_or (set legs c a) i no_leg ≡ get_or legs i no_leg
+    other i l = get_or-set_other legs c i a no_leg (λ s. omega arith)
 
 -- whoever may stay aboard for a leg does so from the leg right before it
 pub join_given : (legs : List Leg) (i : ℕ) → is_joined legs i ≡ true →

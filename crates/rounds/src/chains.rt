@@ -60,7 +60,7 @@ impl<'a> Iterator for Along<'a> {
 
 // One more of a pier, the one at `i`, goes to the front of the chain of the pier, so that the chains need no room of
 // their own.
-fn put_in_front(last: &mut [u16], prior: &mut [u16], pier: usize, i: usize)
+pub fn put_in_front(last: &mut [u16], prior: &mut [u16], pier: usize, i: usize)
     requires pier { pier < length last.old }
     requires place { i < length prior.old }
     requires few { i < 65535 }

@@ -23,26 +23,20 @@ fn is_joined(legs: &[Leg], i: usize) -> bool
     i > 0 && legs[i].runs() && stays(legs[i - 1], legs[i])
 }
 
-// The legs in the order of their keys.
-fn fill_legs(table: Timetable, keys: &[u64], legs: &mut [Leg])
+// The legs in the order of their keys, and for each whether one may stay aboard for it. It is one pass, while the leg is
+// at hand.
+fn fill_legs(table: Timetable, keys: &[u64], legs: &mut [Leg], joins: &mut [bool])
     requires ordered { Ordered (plan_in table.words.now) keys.now }
     requires few { length (plan_in table.words.now).legs ≤ 65536 }
     requires size { length legs.old ≡ length (plan_in table.words.now).legs }
-    ensures { LegsLaid (plan_in table.entry.words.now) keys.now legs.new }
+    requires joins { length joins.old ≡ length legs.old }
+    ensures legs { LegsLaid (plan_in table.entry.words.now) keys.now legs.new }
+    ensures joins { (i : ℕ) → i < length legs.new → slice_index_or joins.new i false ≡ is_joined legs.new i }
 {
-    // By place: of what is written through a `zip` a proof knows nothing afterwards.
-    for (c, leg) in legs.iter_mut().enumerate() {
-        *leg = table.leg(place_of(keys[c]));
-    }
-}
-
-// For each leg, whether one may stay aboard for it.
-fn fill_joins(legs: &[Leg], joins: &mut [bool])
-    requires size { length joins.old ≡ length legs.now }
-    ensures { (i : ℕ) → i < length legs.now → slice_index_or joins.new i false ≡ is_joined legs.now i }
-{
-    for (i, joined) in joins.iter_mut().enumerate() {
-        *joined = is_joined(legs, i);
+    // By place, since both rows are written, and the leg before is looked at.
+    for c in 0..legs.len() {
+        legs[c] = table.leg(place_of(keys[c]));
+        joins[c] = is_joined(legs, c);
     }
 }
 
@@ -94,8 +88,7 @@ pub fn lay_out(
     ensures laid { Laid (plan_of legs.new walks.new change.new)
         joins.new first.new link.new }
 {
-    fill_legs(table, keys, legs);
-    fill_joins(legs, joins);
+    fill_legs(table, keys, legs, joins);
     fill_walks(table, walks);
     fill_changes(table, change);
     link_walks(walks, first, link);

@@ -12,13 +12,10 @@ pub struct Workspace {
     level: [u8; MOST_LEGS],
     seed: [u8; MOST_LEGS],
     waits: [u16; MOST_LEGS],
-    ready: [u64; MOST_PIERS],
-    later: [u64; MOST_PIERS],
-    arrived: [u64; MOST_PIERS],
 }
 
 impl Workspace {
-    ghost use Rattle.std.specs.Prelude.{◌≡◌, ◌≤◌, length, take};
+    ghost use Rattle.std.specs.Prelude.{◌≡◌, ◌≤◌, length, take, All};
     ghost use Rattle.plan.specs.Sound.{Few};
     ghost use Rattle.journey.specs.Aboard.{Aboard};
     ghost use Rattle.marks.specs.Fronts.{marks_of};
@@ -26,14 +23,14 @@ impl Workspace {
     ghost use Rattle.rounds.specs.Levels.{Levels};
     ghost use Rattle.rounds.specs.Answers.{Answer, Asked};
 
-    pub fn new() -> Workspace {
+    // Nobody is aboard of any leg yet.
+    pub fn new() -> Workspace
+        ensures { All (λ boats. boats ≡ 0) result.level }
+    {
         Workspace {
             level: [0; MOST_LEGS],
             seed: [0; MOST_LEGS],
             waits: [0; MOST_LEGS],
-            ready: [0; MOST_PIERS],
-            later: [0; MOST_PIERS],
-            arrived: [0; MOST_PIERS],
         }
     }
 
@@ -48,15 +45,20 @@ impl Workspace {
     {
         let legs = layout.legs.len();
         let piers = layout.change.len();
+        // Each a row of its own, which nobody reads afterwards: a row is copied to another after each round, and of two
+        // parts of one struct it would not be known that they lie apart.
+        let mut ready = [0; MOST_PIERS];
+        let mut later = [0; MOST_PIERS];
+        let mut arrived = [0; MOST_PIERS];
         answer_laid(
             layout,
             query.question,
             query.most,
             &mut self.level[0..legs],
             &mut self.seed[0..legs],
-            &mut self.ready[0..piers],
-            &mut self.later[0..piers],
-            &mut self.arrived[0..piers],
+            &mut ready[0..piers],
+            &mut later[0..piers],
+            &mut arrived[0..piers],
             &mut self.waits[0..legs],
         )
     }

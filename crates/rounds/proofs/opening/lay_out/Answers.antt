@@ -21,12 +21,12 @@ returns c =
     let s = sound_plan c.args.table.words.now checked in
     let filled : Filled (plan_in c.args.table.words.now) c.args.keys.now
     (plan_of c.fill_legs.new.legs c.fill_walks.new.walks c.fill_changes.new.change)
-    c.fill_joins.new.joins c.link_walks.new.first c.link_walks.new.link = record {
+    c.fill_legs.new.joins c.link_walks.new.first c.link_walks.new.link = record {
       joins_long = omega arith;
       first_long = omega arith;
       link_long = omega arith;
-      legs = c.fill_legs.ensures;
-      joined = c.fill_joins.ensures;
+      legs = c.fill_legs.ensures.legs;
+      joined = c.fill_legs.ensures.joins;
       walks = c.fill_walks.ensures;
       change = c.fill_changes.ensures;
       chained = c.link_walks.ensures;
