@@ -21,10 +21,13 @@ const PLANS: u64 = 40000;
 
 const QUESTIONS_OF_A_PLAN: u64 = 5;
 
-// A row of zeros holds these numbers now, and no others.
+// A row of zeros holds these numbers now, and no others. What lies behind them in the row of an itinerary is long: its
+// bits are put together, many numbers at a time, where a look for the first that is not 0 takes one after the other.
 fn holds(row: &[u64], numbers: &[u64]) -> bool {
-    row.strip_prefix(numbers)
-        .is_some_and(|rest| rest.iter().all(|number| *number == 0))
+    let Some(rest) = row.strip_prefix(numbers) else {
+        return false;
+    };
+    rest.iter().fold(0, |bits, number| bits | *number) == 0
 }
 
 // The proved answer has the marks that were tried, and no others.

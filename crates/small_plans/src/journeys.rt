@@ -30,15 +30,23 @@ impl Journey {
         }
     }
 
-    // The journey with one leg more.
-    pub(crate) fn and(&self, leg: Leg, step: Step) -> Result<Journey, AllocError> {
-        let mut longer = self.clone()?;
-        longer.legs.push(leg)?;
+    // One leg more.
+    pub(crate) fn add(&mut self, leg: Leg, step: Step) -> Result<(), AllocError> {
+        self.legs.push(leg)?;
         match step {
-            Step::Stay => longer.stays = true,
-            Step::Board => longer.boats = longer.boats.saturating_add(1),
+            Step::Stay => self.stays = true,
+            Step::Board => self.boats = self.boats.saturating_add(1),
         }
-        Ok(longer)
+        Ok(())
+    }
+
+    // The same journey as another, in the memory that it has already.
+    pub(crate) fn become_like(&mut self, other: &Journey) -> Result<(), AllocError> {
+        self.legs.clear();
+        self.legs.extend_from_slice(&other.legs)?;
+        self.boats = other.boats;
+        self.stays = other.stays;
+        Ok(())
     }
 
     // Where one is who has ridden its legs for a question.

@@ -5,12 +5,10 @@ ghost use Rattle.small_plans.specs.Tried.{mark_of, marks_of, IsFalling};
 ghost use Rattle.small_plans.specs.Words.{marks_words};
 
 use crate::journeys::Journey;
-use crate::small::{Leg, Mark, Question, SmallPlan};
+use crate::small::{Leg, Mark, Question, SmallPlan, Spot};
 use crate::steps::{Step, first_step, step_between};
 use std::alloc::{AllocError, Global};
 use std::cmp::Ordering;
-use std::collections::BTreeMap;
-use std::collections::btree_map::Entry;
 
 // The earliest arrival with one count of boats, and the journeys that are there by then.
 #[derive(Drop)]
@@ -38,12 +36,17 @@ impl Reached {
     fn note(&mut self, arrival: u64, journey: &Journey) -> Result<(), AllocError> {
         match arrival.cmp(&self.arrival) {
             Ordering::Greater => {}
-            Ordering::Less => *self = Reached::by(arrival, journey)?,
+            Ordering::Less => {
+                self.arrival = arrival;
+                self.itinerary.become_like(journey)?;
+                self.ways = 1;
+                self.needs_stay = journey.stays;
+            }
             Ordering::Equal => {
                 self.ways = self.ways.saturating_add(1);
                 self.needs_stay = self.needs_stay && journey.stays;
                 if journey.is_named_before(&self.itinerary) {
-                    self.itinerary = journey.clone()?;
+                    self.itinerary.become_like(journey)?;
                 }
             }
         }
@@ -75,62 +78,77 @@ fn is_worth_telling(told: &[Reached], mark: Mark) -> bool
 struct Search<'a> {
     plan: &'a SmallPlan,
     question: Question,
-    // For each count of boats.
-    earliest: BTreeMap<u64, Reached>,
+    // The journey that is tried: one for all, which grows and shrinks, so that a step takes no memory of its own.
+    journey: Journey,
+    // For each count of boats, by rising boats. They are so few that a map would cost more: it takes room for many at once.
+    earliest: Vec<Reached>,
     journeys: u64,
 }
 
 impl<'a> Search<'a> {
     // Somebody is there by the journey.
-    fn note(&mut self, arrival: u64, journey: &Journey) -> Result<(), AllocError> {
+    fn note(&mut self, arrival: u64) -> Result<(), AllocError> {
+        let journey = &self.journey;
         if journey.boats > self.question.most {
             return Ok(());
         }
         self.journeys = self.journeys.saturating_add(1);
-        match self.earliest.entry(journey.boats)? {
-            Entry::Occupied(mut entry) => entry.get_mut().note(arrival, journey),
-            Entry::Vacant(entry) => {
-                entry.insert(Reached::by(arrival, journey)?);
-                Ok(())
-            }
-        }
-    }
-
-    // Who has ridden the journey's legs is there, or walks there.
-    fn note_ends(&mut self, journey: &Journey) -> Result<(), AllocError> {
-        let end = journey.end(self.question);
-        let to = self.question.to;
-        if end.pier == to {
-            self.note(end.time, journey)?;
-        }
-        for walk in &self.plan.walks {
-            if walk.from == end.pier && walk.to == to {
-                self.note(end.time.saturating_add(walk.takes), journey)?;
+        let found = self
+            .earliest
+            .binary_search_by_key(&journey.boats, |reached| reached.itinerary.boats);
+        match found {
+            Ok(place) => self.earliest[place].note(arrival, journey)?,
+            Err(place) => {
+                let reached = Reached::by(arrival, journey)?;
+                self.earliest.insert(place, reached)?;
             }
         }
         Ok(())
     }
 
-    // How the journey goes on with the leg, if it can. It never needs a leg twice: what lies between can be left out.
-    fn next_step(&self, journey: &Journey, leg: Leg) -> Option<Step> {
-        if !leg.runs() || journey.legs.contains(&leg) {
-            return None;
+    // Who has ridden the journey's legs, and is at its end, is there, or walks there.
+    fn note_ends(&mut self, end: Spot) -> Result<(), AllocError> {
+        let to = self.question.to;
+        if end.pier == to {
+            self.note(end.time)?;
         }
-        match journey.legs.last() {
-            Some(last) => step_between(self.plan, *last, leg),
-            None => first_step(self.plan, self.question, leg),
+        for walk in &self.plan.walks {
+            if walk.from == end.pier && walk.to == to {
+                self.note(end.time.saturating_add(walk.takes))?;
+            }
         }
+        Ok(())
     }
 
-    // All journeys that begin with this one; so many legs may follow.
-    fn go_on(&mut self, journey: &Journey, others: usize) -> Result<(), AllocError> {
-        self.note_ends(journey)?;
+    // How the journey goes on from its end with the leg, if it can. It never needs a leg twice: what lies between can be
+    // left out. A leg that left before is out of reach in every way, which is seen at once; the journey's own legs are
+    // mostly such, so that they are looked through last.
+    fn next_step(&self, end: Spot, leg: Leg) -> Option<Step> {
+        if leg.leaves < end.time || !leg.runs() {
+            return None;
+        }
+        let step = match self.journey.legs.last() {
+            Some(last) => step_between(self.plan, *last, leg),
+            None => first_step(self.plan, self.question, leg),
+        };
+        step.filter(|_| !self.journey.legs.contains(&leg))
+    }
+
+    // All journeys that begin with this one; so many legs may follow. It is as it was afterwards.
+    fn go_on(&mut self, others: usize) -> Result<(), AllocError> {
+        let end = self.journey.end(self.question);
+        self.note_ends(end)?;
         if others == 0 {
             return Ok(());
         }
         for leg in &self.plan.legs {
-            if let Some(step) = self.next_step(journey, *leg) {
-                self.go_on(&journey.and(*leg, step)?, others - 1)?;
+            if let Some(step) = self.next_step(end, *leg) {
+                let (boats, stays) = (self.journey.boats, self.journey.stays);
+                self.journey.add(*leg, step)?;
+                self.go_on(others - 1)?;
+                self.journey.legs.pop();
+                self.journey.boats = boats;
+                self.journey.stays = stays;
             }
         }
         Ok(())
@@ -141,7 +159,7 @@ impl<'a> Search<'a> {
         ensures { IfOk result (λ t. IsFalling t.reached.items) }
     {
         let mut told = Vec::new(heap);
-        for (_, reached) in self.earliest {
+        for reached in self.earliest {
             if is_worth_telling(&told, reached.mark()) {
                 told.push(reached)?;
             }
@@ -194,9 +212,10 @@ pub fn try_journeys(heap: Global, plan: &SmallPlan, question: Question) -> Resul
     let mut search = Search {
         plan,
         question,
-        earliest: BTreeMap::new(heap),
+        journey: Journey::on_foot(heap),
+        earliest: Vec::new(heap),
         journeys: 0,
     };
-    search.go_on(&Journey::on_foot(heap), plan.legs.len())?;
+    search.go_on(plan.legs.len())?;
     search.tell(heap)
 }
