@@ -49,7 +49,9 @@ mod tests {
     #[test]
     fn rows_of_several_lengths(rt: HostRuntime) {
         let mut short = [7; 18];
-        assert!(rt; two_marks().write(&mut short) == Err(Refusal::ShortRow(18)));
+        let told = two_marks().write(&mut short);
+        assert!(rt; told == Err(Refusal::ShortRow(18)));
+        assert!(rt; told.map_err(|refusal| (refusal.number(), refusal.place())) == Err((4, 18)));
         assert!(rt; short == [7; 18], "a refused row is as it was");
         let mut whole = [7; 19];
         assert!(rt; two_marks().write(&mut whole) == Ok(2));

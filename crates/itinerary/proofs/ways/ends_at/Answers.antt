@@ -30,7 +30,7 @@ loop-j-preserved c =
       rest,
       missed_more laid.chained c.in-Some.j here m (λ e.
           elim c.else-w-at.branch [
-            | else-w-at-via-then-w-at+else-a-w v ↦ v.if-a-w.false (omega (arith, e.1))
+            | else-w-at-via-then-w-at+else-a-w v ↦ omega (arith, e.1, v.if-a-w.false)
             | else-w-at-via-else-w-at v ↦ v.if-w-at.false (omega (arith, e.0))
           ]),
     )
