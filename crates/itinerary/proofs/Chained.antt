@@ -8,7 +8,7 @@ use Rattle.journey.specs.Journeys.{Ends}
 use Rattle.journey.specs.Journeys.Ends.{at_once, on_foot}
 use Rattle.journey.proofs.Walking.{walked, walked_back}
 use Rattle.rounds.specs.Layout.{Chains, ChainAt, walk_from}
-use Rattle.rounds.proofs.Linking.{chain_next, chain_which}
+use Rattle.rounds.proofs.Linking.{chain_last, chain_next, chain_which}
 
 -- no walk of the pier s at the place `at` or behind it is such a one
 pub record Missed (ws : List Walk) (P : ℕ → Type 0) (s at : ℕ) : Type 0 where
@@ -17,6 +17,13 @@ pub record Missed (ws : List Walk) (P : ℕ → Type 0) (s at : ℕ) : Type 0 wh
 
 module _ {ws : List Walk} {n : ℕ} {first link : List ℕ} (ls : Chains (walk_from ws) (length ws) n first link (length ws))
     {P : ℕ → Type 0} {s : ℕ} where
+  -- none was missed before the search
+  pub missed_none : s < n → Missed ws P s (get_or first s 0)
+  missed_none h = record {
+    here = ls.first_at s h;
+    none = λ i l r e x. chain_last (walk_from ws) ls i l r e;
+  }
+
   -- the walk at v, one before the place `at`, is no such one either
   pub missed_more : (v : ℕ) {at : ℕ} → suc v ≡ at → Missed ws P s at → (P v → ⊥) → Missed ws P s (get_or link v 0)
   missed_more v {at} next m not = record {

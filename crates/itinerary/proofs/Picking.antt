@@ -9,6 +9,11 @@ use Rattle.itinerary.specs.Tracing.{Chosen, first_of, Within}
 use Rattle.itinerary.specs.Searching.{Behind, Found, none_fits, first_fits}
 use Rattle.itinerary.proofs.Preceding.{before_else, before_trans}
 
+-- the leg that was chosen is one of them
+pub chosen_within : (p : Plan) (Good : ℕ → Type 0) (n : ℕ) (o : Option ℕ) → Chosen p Good n o → Within o n
+chosen_within p Good n None c = tt
+chosen_within p Good n (Some x) c = c.within
+
 -- the same legs are good
 pub chosen_same : (p : Plan) (n : ℕ) (G H : ℕ → Type 0) → ((y : ℕ) → y < n → G y → H y) →
     ((y : ℕ) → y < n → H y → G y) → (o : Option ℕ) → Chosen p G n o → Chosen p H n o

@@ -1,15 +1,19 @@
 -- The legs of an itinerary written to a row, number by number.
-use Rattle.std.proofs.Common.{◌≡◌, ℕ, zero, suc, ◌+◌, ◌*◌, ◌<◌, ◌≤◌, true, ◌&&◌, eqb, Decides, ◌⊎◌, List, [], ◌∷◌, ◌++◌, map, length, get_or, take, set, sym, refl, ap, ◌∙◌, subst, inl, inr, ⊎_elim, arith}
+use Rattle.std.proofs.Common.{◌≡◌, ℕ, zero, suc, ◌+◌, ◌-◌, ◌*◌, ◌<◌, ◌≤◌, true, ◌&&◌, eqb, Decides, ◌⊎◌, List, [], ◌∷◌, ◌++◌, map, length, get_or, take, drop, set, sym, refl, ap, ◌∙◌, subst, inl, inr, ⊎_elim, arith, length-drop}
 use Rattle.std.specs.List.{list_any}
 use Rattle.std.proofs.lemmas.Bool.{false≢true, or_cases, or_left, or_right}
 use Rattle.std.proofs.lemmas.Bool.Decides.{nat_tests}
-use Rattle.std.proofs.lemmas.List.{take_more, take_all, length-take-le, length_push, length-map}
+use Rattle.std.proofs.lemmas.List.{take_more, take_all, take_rest, length-take-le, length_push, length-map, get_or-drop}
 use Rattle.plan.specs.declared.leg.Leg.{Leg}
+use Rattle.plan.specs.Legs.{Plan, leg}
+use Rattle.journey.specs.declared.question.Question.{Question}
 use Rattle.marks.specs.declared.mark.Mark.{Mark}
 use Rattle.marks.specs.Marks.{Among, among_first, among_later}
 use Rattle.marks.specs.Row.{over}
 use Rattle.marks.proofs.Row.{over_more, over_first}
-use Rattle.itinerary.specs.Named.{names_words, itinerary_words}
+use Rattle.itinerary.specs.Order.{Itinerary}
+use Rattle.itinerary.specs.Tracing.{Places, legs_from}
+use Rattle.itinerary.specs.Named.{names_words, itinerary_words, Written}
 
 -- the legs at the places of a list, by the leg that each place has
 module _ (f : ℕ → Leg) where
@@ -65,6 +69,25 @@ module _ (f : ℕ → Leg) where
       ∙ ap (λ (l : List ℕ). over (length ps ∷ names_words (map f l)) (set xs 0 (length ps))) (take_all i ps past)
       ∙ over_first (length ps) (names_words (map f ps)) xs some
       ∙ ap (λ (n : ℕ). over (n ∷ names_words (map f ps)) xs) (sym (length-map ps f))
+
+-- ---- the rest of a row from a place on, as a slice has it
+pub places_rest : (n : ℕ) (row : List ℕ) (at : ℕ) → at ≤ length row → Places n at row →
+    (c : ℕ) → c < length (take (length row - at) (drop at row)) → get_or (take (length row - at) (drop at row)) c 0 < n
+places_rest n row at h ps =
+    subst (λ (l : List ℕ). (c : ℕ) → c < length l → get_or l c 0 < n) (sym (take_rest row at))
+    (λ c less. omega (arith, get_or-drop at row c 0, ps (at + c) (omega arith) (omega (arith, length-drop at row))))
+
+-- the itinerary whose places stand in the rest of a row was written
+pub written_rest : {p : Plan} {q : Question} {m : Mark} (row : List ℕ) (at : ℕ) (out out₁ : List ℕ) →
+    Itinerary p q m.arrival m.boats (legs_from p at row) →
+    out₁ ≡ over (itinerary_words (map (leg p) (take (length row - at) (drop at row)))) out →
+    Written p q m out (length (take (length row - at) (drop at row))) out₁
+written_rest {p} {q} {m} row at out out₁ it after = record {
+  legs = map (leg p) (take (length row - at) (drop at row));
+  itinerary = subst (λ (l : List ℕ). Itinerary p q m.arrival m.boats (map (leg p) l)) (sym (take_rest row at)) it;
+  many = sym (length-map (take (length row - at) (drop at row)) (leg p));
+  after = after;
+}
 
 -- ---- a search for a mark
 pub among_at : (ms : List Mark) (i : ℕ) (m d : Mark) → i < length ms → get_or ms i d ≡ m → Among m ms

@@ -24,6 +24,10 @@ stays_says a b e =
       in_time = grind (arith, nat_tests);
     }
 
+-- and the other way round
+pub stays_from : (a b : Leg) → Staying a b → stays a b ≡ true
+stays_from a b x = grind (arith, nat_tests)
+
 pub record Changing (p : Plan) (a b : Leg) : Type 0 where
   pub pier : b.from ≡ a.to
   pub in_time : a.comes + change_for p a b ≤ b.leaves

@@ -12,7 +12,14 @@ use Rattle.journey.specs.Aboard.AboardBy.{start}
 use Rattle.journey.proofs.Following.{follows_stay, follows_board, follows_else}
 use Rattle.journey.proofs.Chains.{joined_none, joined_says, joined_more, boats_none, boats_stay, boats_board, boats_head}
 use Rattle.journey.proofs.Aboard.{Along, along_end, along_free, along_paid}
-use Rattle.journey.proofs.Aboard.{aboard_along, aboard_seeded}
+use Rattle.journey.proofs.Aboard.{aboard_more, aboard_some, aboard_along, aboard_seeded}
+
+-- a boat more does no harm, and a journey by boat has one
+pub boats_more : {p : Plan} {s t j k : ℕ} {b : Leg} → j ≤ k → Aboard p s t j b → Aboard p s t k b
+boats_more h x = aboard_more (λ i j b l y. record { enough = omega arith; begun = y.begun }) h x
+
+pub boats_least : {p : Plan} {s t k : ℕ} {b : Leg} → Aboard p s t k b → 1 ≤ k
+boats_least x = aboard_some (λ k b y. y.enough) x
 
 -- Legs that are joined are a chain of free and paid steps. Where one can stay it is a stay, so that of the two the
 -- paid ones are exactly the boats after the first.

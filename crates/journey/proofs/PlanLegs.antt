@@ -1,5 +1,5 @@
 -- Legs of a plan: a leg is what its six numbers are, and each leg of a plan has a place in it.
-use Rattle.std.proofs.Common.{◌≡◌, ℕ, zero, suc, ◌<◌, true, false, ◌⊎◌, List, [], ◌∷◌, ◌++◌, length, get_or, sym, refl, ◌∙◌, subst, inl, inr, ⊎_elim, arith}
+use Rattle.std.proofs.Common.{◌≡◌, ℕ, zero, suc, ◌<◌, true, false, ◌||◌, ◌⊎◌, List, [], ◌∷◌, ◌++◌, length, get_or, sym, refl, ◌∙◌, subst, inl, inr, ⊎_elim, arith}
 use Rattle.std.proofs.lemmas.Bool.{false≢true, or_cases, or_left, or_right}
 use Rattle.std.proofs.lemmas.Bool.Decides.{nat_tests}
 use Rattle.std.specs.List.{AllByRecursion}
@@ -25,6 +25,11 @@ same_leg_refl a = grind (arith, nat_tests)
 pub in_plan_none : (a : Leg) → in_plan a [] ≡ false
 unfolding in_plan
 in_plan_none a = refl
+
+-- a leg stands in the first place or in what follows
+pub in_plan_more : (a b : Leg) (bs : List Leg) → in_plan a (b ∷ bs) ≡ (same_leg a b || in_plan a bs)
+unfolding in_plan
+in_plan_more a b bs = refl
 
 pub in_plan_first : (a : Leg) (bs : List Leg) → in_plan a (a ∷ bs) ≡ true
 unfolding in_plan

@@ -143,7 +143,7 @@ longer p a (b ∷ bs) n x (y ∷ ys) once ia ja ix jx e =
     record { same = once x a ix ia (same_named x a first); next = r.next; is = (λ i. r.same i ∷ r.is i); is_named = r.is_named }
 
 module _ (p : Plan) (s t : ℕ) (names : List LegName) (once : NamedOnce p.legs) where
-  no_first : 0 < length names → first_leg p s t (get_or names 0 no_name) ≡ None → (x : Leg) (more : List Leg) → Goes p s t (take 1 names) x more → ⊥
+  pub no_first : 0 < length names → first_leg p s t (get_or names 0 no_name) ≡ None → (x : Leg) (more : List Leg) → Goes p s t (take 1 names) x more → ⊥
   no_first h f x more g =
       let n = get_or names 0 no_name in
       let e = front p s t names h in
@@ -153,7 +153,7 @@ module _ (p : Plan) (s t : ℕ) (names : List LegName) (once : NamedOnce p.legs)
       let z : ◌≡◌ {A = ℕ} 0 1 = (let w : None ≡ Some x = sym f ∙ found in cc) in
       omega arith
 
-  no_next : (i k : ℕ) (a : Leg) → Trail p s t names i a k → i < length names → next_leg p a (get_or names i no_name) ≡ None →
+  pub no_next : (i k : ℕ) (a : Leg) → Trail p s t names i a k → i < length names → next_leg p a (get_or names i no_name) ≡ None →
       (x : Leg) (more : List Leg) → Goes p s t (take (suc i) names) x more → ⊥
   no_next i k a tr h f x more g =
       let n = get_or names i no_name in

@@ -5,9 +5,10 @@ use Rattle.std.proofs.lemmas.List.{length-take-le, take_more_set}
 use Rattle.std.proofs.lemmas.Bool.{and_from, and_parts, cases_Bool, cond-true, cond_both, lt-ltb, ltb-true, true≢false}
 use Rattle.std.proofs.lemmas.Bool.Decides.{nat_tests}
 use Rattle.marks.specs.declared.mark.Mark.{Mark}
-use Rattle.marks.specs.Marks.{no_worse, covered, Among, falls, falls_on, in_order}
+use Rattle.marks.specs.declared.front.Front.{Front}
+use Rattle.marks.specs.Marks.{no_worse, covered, Among, Falling, falls, falls_on, in_order}
 use Rattle.marks.specs.Answers.{AnswerOf}
-use Rattle.marks.specs.Fronts.{accepts, with_mark}
+use Rattle.marks.specs.Fronts.{marks_of, accepts, with_mark}
 use Rattle.marks.proofs.Marks.{Before, no_worse_by, covered_up, uncovered, falling_push, falling_last}
 use Rattle.marks.proofs.Marks.{in_order_falling, falling_in_order}
 use Rattle.marks.proofs.Answers.{answer_same, answer_more, answer_short}
@@ -55,6 +56,19 @@ module _ (row : List Mark) (count : ℕ) (m : Mark) (nine : length row ≡ 9) (w
 
     pub grown_with : take (count + 1) (set row count m) ≡ with_mark (take count row) m
     grown_with = grown ∙ sym (cond-true (accepts (take count row) m) (take count row ++ m ∷ []) (take count row) next)
+
+-- what every front has
+pub front_falling : (f : Front) → Falling (marks_of f)
+front_falling f = in_order_falling (marks_of f) f.ordered
+
+pub front_length : (f : Front) → length (marks_of f) ≡ f.count
+front_length f = held f.row f.count f.nine f.within
+
+-- what a falling list of fewer than nine becomes with a mark that falls on
+pub with_falling : (ms : List Mark) (m : Mark) → length ms < 9 → Falling (ms ++ m ∷ []) → with_mark ms m ≡ ms ++ m ∷ []
+with_falling ms m h f =
+    cond-true (accepts ms m) (ms ++ m ∷ []) ms
+    (and_from (ltb (length ms) 9) (in_order (ms ++ m ∷ [])) (lt-ltb (length ms) 9 h) (falling_in_order (ms ++ m ∷ []) f))
 
 later : (n m : Mark) → no_worse n m ≡ false → n.boats ≤ m.boats → m.arrival < n.arrival
 later n m e h = grind (arith, nat_tests)

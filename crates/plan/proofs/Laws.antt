@@ -1,6 +1,6 @@
 -- A plan is not refused exactly if it may be used.
 use Rattle.std.proofs.Common.{◌≡◌, ℕ, ◌<◌, ◌≤◌, true, not, ◌&&◌, leb, List, length, get_or, is_ok, Ok, Err, Result, sym, refl, ap, ◌∙◌, inl, inr, arith}
-use Rattle.std.proofs.lemmas.Bool.{cases_order, cases_Bool, and_parts, and_from, not-true, not_from_false, both_ways, eqb-true, eq-eqb, ltb-true, lt-ltb}
+use Rattle.std.proofs.lemmas.Bool.{cases_order, cases_Bool, and_parts, and_from, not-true, not_from_false, both_ways, eqb-true, eq-eqb, ltb-true, lt-ltb, leb-true}
 use Rattle.std.proofs.lemmas.Bool.Decides.{nat_tests}
 use Rattle.plan.specs.declared.refusal.Refusal.{Refusal}
 use Rattle.plan.specs.declared.refusal.Refusal.TheVariants.{BadLeg, BadWalk, BadChange}
@@ -182,6 +182,10 @@ usable_opens xs u = opens xs (not_refused xs u)
 
 -- ---- what words that hold a sound plan give
 module _ (xs : List ℕ) (h : sound_words xs ≡ true) where
+  pub sound_whole : Whole xs
+  unfolding sound_words
+  sound_whole = leb-true _ _ (and_parts (leb (plan_end xs) (length xs)) (is_ok (parts_checked (plan_in xs))) h).0
+
   pub sound_plan : Sound (plan_in xs)
   unfolding sound_words
   sound_plan = sound_from_checked (plan_in xs) (and_parts (leb (plan_end xs) (length xs)) (is_ok (parts_checked (plan_in xs))) h).1

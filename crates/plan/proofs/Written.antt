@@ -1,7 +1,7 @@
 -- Memory that a plan was written into.
 use Rattle.std.proofs.Common.{◌≡◌, ℕ, ◌≤◌, List, ◌++◌, length, take, drop, sym, refl, ap, ◌∙◌, subst, arith}
 use lib.Seq.{take-append-le}
-use Rattle.std.proofs.lemmas.List.{length-append, take_all}
+use Rattle.std.proofs.lemmas.List.{length-append, length-drop, take_all}
 use Rattle.std.proofs.lemmas.Slice.{drop-append-drop}
 use Rattle.plan.specs.Legs.{Plan}
 use Rattle.plan.specs.Words.{plan_in, plan_end, Whole, words, written}
@@ -9,6 +9,11 @@ use Rattle.plan.specs.Sound.{Sound, Few, Usable}
 use Rattle.plan.proofs.Parts.{count_piers, count_legs, count_walks}
 use Rattle.plan.proofs.ReadBack.{length_legs_words, length_walks_words, length_words, read_written}
 use Rattle.plan.proofs.LegWords.{written_same}
+
+-- memory that has room for the plan is as long as it was
+pub length_written : (p : Plan) (xs : List ℕ) → length (words p) ≤ length xs → length (written p xs) ≡ length xs
+unfolding written
+length_written p xs h = length-append (words p) _ ∙ simp length-drop (omega arith)
 
 -- a plan that is no shorter hides the one before
 pub written_over : (p q : Plan) (xs : List ℕ) → length (words p) ≤ length (words q) → written q (written p xs) ≡ written q xs

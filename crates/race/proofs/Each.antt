@@ -1,5 +1,5 @@
 -- One question after another: what is written for one leaves the rows of the others alone.
-use Rattle.std.proofs.Common.{◌≡◌, ℕ, ◌+◌, ◌-◌, ◌*◌, ◌<◌, ◌≤◌, List, length, take, drop, sym, ap, ◌∙◌, subst, ⊎_elim, arith}
+use Rattle.std.proofs.Common.{◌≡◌, ℕ, ◌+◌, ◌-◌, ◌*◌, ◌<◌, ◌≤◌, List, length, take, drop, sym, refl, ap, ◌∙◌, subst, ⊎_elim, arith}
 use borrow.Rule.Slice.PartMut.{put_mid}
 use Rattle.std.proofs.lemmas.Bool.{cases_lt}
 use Rattle.std.proofs.lemmas.Slice.{between_is, take-put_mid_below, drop-put_mid, between-put_mid}
@@ -14,6 +14,10 @@ use Rattle.race.specs.Each.{question_at, row_at, EachAnswered}
 pub record AnsweredTo (p : Plan) (qs out out₁ : List ℕ) (i : ℕ) : Type 0 where
   pub done : EachAnswered p qs out out₁ i
   pub rest : (j : ℕ) → i ≤ j → 19 * j + 19 ≤ length out → row_at j out₁ ≡ row_at j out
+
+-- nothing was written yet
+pub to_none : {p : Plan} {qs out : List ℕ} → AnsweredTo p qs out out 0
+to_none = record { done = λ j h. absurd (omega arith); rest = λ j h l. refl }
 
 -- rows before and behind the one that was written
 row_below : (i j : ℕ) (xs ys : List ℕ) → j < i → 19 * i ≤ length xs → row_at j (put_mid (19 * i) (19 * i + 19 - 19 * i) xs ys) ≡ row_at j xs

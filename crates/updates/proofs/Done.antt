@@ -29,6 +29,13 @@ module _ (xs : List ℕ) (u : Update) (h : Usable xs) where
   abbrev p : Plan
   p = plan_in xs
 
+  pub refused_by_rule : (e : Refusal) → Err e ≡ update_checked p u → Applied xs u (Err e) xs
+  refused_by_rule e r = record {
+    result = ap (λ (q : Result Unit Refusal). then q (λ _. room p u (length xs))) r;
+    memory = refl;
+    usable = h;
+  }
+
   pub refused_for_room : update_checked p u ≡ Ok tt → leb (length (words (after p u))) (length xs) ≡ false →
       Applied xs u (Err Short) xs
   refused_for_room r s = record { result = simp (r, s); memory = refl; usable = h }
